@@ -1,0 +1,38 @@
+-- The escapes of the wire, and what the byte after 7e means. The receiver and the grammar cite both. Assumes nothing.
+use Prim.Native.Nat.{ℕ, suc}
+use mathlib.Core.Bool.{Bool, true, false, cond}
+use mathlib.Core.List.{List, [], _∷_, _++_}
+use lib.ListN.{length, getD}
+use lib.Dec.{eqb, ltb}
+
+-- 01, "On the wire": escapes, each after 7e: 7e as 00, 24 as 01, 23 as 02, 25 as 03, a4 as 04, a3 as 05, a5 as 06
+abbrev pub escapes : List ℕ
+escapes = 0x7e ∷ 0x24 ∷ 0x23 ∷ 0x25 ∷ 0xa4 ∷ 0xa3 ∷ 0xa5 ∷ []
+
+-- the byte that 7e and a code below 07 stand for
+abbrev pub unescapedOf : ℕ → ℕ
+unescapedOf code = getD escapes code 0
+
+-- where a byte stands in a list, counted from 0; the list's length if it does not
+abbrev pub placeIn : List ℕ → ℕ → ℕ
+placeIn [] b = 0
+placeIn (x ∷ xs) b = cond (eqb x b) 0 (suc (placeIn xs b))
+
+-- the code of a byte that is escaped; 7 for any other
+unfoldable pub codeOf : ℕ → ℕ
+codeOf b = placeIn escapes b
+
+-- a byte on the wire: 7e and its code, or itself
+unfoldable pub escapedByte : ℕ → List ℕ
+escapedByte b = cond (ltb (codeOf b) 7) (0x7e ∷ codeOf b ∷ []) (b ∷ [])
+
+unfoldable pub escaped : List ℕ → List ℕ
+escaped [] = []
+escaped (b ∷ bs) = escapedByte b ++ escaped bs
+
+-- what the byte after 7e means: data for 00 to 06, the opener 07, the closer 08, or neither
+pub data Meaning : Type 0 where
+  datum opener closer neither : Meaning
+
+unfoldable pub meaning : ℕ → Meaning
+meaning b = cond (ltb b 7) datum (cond (eqb b 7) opener (cond (eqb b 8) closer neither))

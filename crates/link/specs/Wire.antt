@@ -1,0 +1,38 @@
+-- A frame and its form on the wire, over any check. Assumes nothing.
+use Prim.Native.Nat.{ℕ, _-_}
+use mathlib.Core.Bool.{Bool, true, false, cond}
+use mathlib.Core.List.{List, [], _∷_, _++_}
+use lib.ListN.{length, take, drop}
+use lib.Dec.{ltb}
+use Rattle.laws.specs.Bytes.{be16, le16, be16At}
+use Rattle.escaping.specs.Escapes.{escaped}
+
+-- a frame: the 16 bits of its address, the 16 bits of its type, its payload
+pub record Frame : Type 0 where
+  pub address : ℕ
+  pub kind : ℕ
+  pub payload : List ℕ
+
+-- 01, "On the wire": a From frame starts ff 7e 07, a To frame 00 ff ff 7e 07 (bit 0x8000 set means From)
+abbrev pub startOf : ℕ → List ℕ
+startOf address = cond (ltb address 0x8000) (0x00 ∷ 0xff ∷ 0xff ∷ 0x7e ∷ 0x07 ∷ []) (0xff ∷ 0x7e ∷ 0x07 ∷ [])
+
+-- both end 7e 08
+abbrev pub end : List ℕ
+end = 0x7e ∷ 0x08 ∷ []
+
+-- 01, "On the wire": a body is address (2, big-endian), type (2, big-endian), payload ..
+abbrev pub checkedOf : Frame → List ℕ
+checkedOf f = be16 (f .address) ++ (be16 (f .kind) ++ f .payload)
+
+-- what a body of at least four bytes and a check says
+abbrev pub frameOf : List ℕ → Frame
+frameOf body = record { address = be16At body 0; kind = be16At body 2; payload = drop 4 (take (length body - 2) body) }
+
+module _ (check : List ℕ → ℕ) where
+  -- .. check of all that (2, little-endian)
+  abbrev pub bodyOf : Frame → List ℕ
+  bodyOf f = checkedOf f ++ le16 (check (checkedOf f))
+
+  unfoldable pub encodedOf : Frame → List ℕ
+  encodedOf f = startOf (f .address) ++ (escaped (bodyOf f) ++ end)

@@ -1,0 +1,1 @@
+// The gateway link layer's frames (link.rs).
