@@ -5,3 +5,5 @@ pub mod Once
 pub mod Machine
 pub mod Books
 pub mod Verdicts
+pub mod ReadBack
+pub mod Marked
