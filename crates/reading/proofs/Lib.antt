@@ -7,3 +7,4 @@ pub mod Books
 pub mod Verdicts
 pub mod ReadBack
 pub mod Marked
+pub mod Within

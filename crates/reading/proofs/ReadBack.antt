@@ -5,13 +5,14 @@ use Prim.Native.Nat.{ℕ, zero, suc, _+_, _-_, _*_, _/_, _%_, _≤_, _<_}
 use mathlib.Core.Bool.{Bool, true, false, cond}
 use mathlib.Core.List.{List, [], _∷_, _++_, append-assoc, append-nil, map, map-append}
 use native.Mathlib.Omega.{arith}
-use native.Mathlib.Nat.{div-add-mod', le-of-suc-le-suc, not-suc-le-zero}
+use native.Mathlib.Nat.{div-add-mod'}
 use lib.ListN.{length, length-append, take, drop, getD}
 use lib.Seq.{take-at, getD-append-add}
 use lib.Dec.{eqb, ltb}
-use borrow.Author.Tests.{eqb-true, ltb-true, eq-eqb, lt-ltb, le-ltb}
+use borrow.Author.Tests.{ne-eqb, eq-eqb, lt-ltb}
 use Rattle.laws.specs.Bytes.{be16, le16, of16, be16At}
-use Rattle.escaping.specs.Escapes.{Meaning, datum, opener, closer, neither, meaning, escapes, unescapedOf, placeIn, codeOf, escapedByte, escaped}
+use Rattle.escaping.specs.Escapes.{meaning, escapedByte, escaped}
+use Rattle.escaping.proofs.Laws.{OnTheWire, itself, coded, escapedByte-on}
 use Rattle.link.specs.Wire as wire
 use Rattle.link.specs.Wire.{Frame, startOf, checkedOf, frameOf, bodyOf, encodedOf}
 use Rattle.reading.specs.Kinds.{Kind, openings, frames, same}
@@ -20,31 +21,6 @@ use Rattle.reading.specs.Counts.{Verdict, sound, checks, verdict, Rest, 
 use Rattle.reading.proofs.Machine.{Event, counted, closes, Beat, beat, run, reach}
 use Rattle.reading.proofs.Books.{tally, bodies, count-more, left-more, soundBodies-more}
 use Rattle.reading.proofs.Verdicts.{verdict-sound}
-
--- THE ESCAPES
-
--- 7e and the code of a byte stand for that byte
-getD-placeIn : (xs : List ℕ) (b : ℕ) → placeIn xs b < length xs → getD xs (placeIn xs b) 0 ≡ b
-getD-placeIn [] b h = absurd (not-suc-le-zero h)
-getD-placeIn (x ∷ xs) b h = go (eqb x b) refl (getD-placeIn xs b) h
-  where
-    go : (t : Bool) → eqb x b ≡ t → (placeIn xs b < length xs → getD xs (placeIn xs b) 0 ≡ b) → cond t 0 (suc (placeIn xs b)) < suc (length xs)
-        → getD (x ∷ xs) (cond t 0 (suc (placeIn xs b))) 0 ≡ b
-    go true e ih g = eqb-true x b e
-    go false e ih g = ih (le-of-suc-le-suc g)
-
-unescapedOf-codeOf : (b : ℕ) → codeOf b < 7 → unescapedOf (codeOf b) ≡ b
-unfolding codeOf
-unescapedOf-codeOf b h = getD-placeIn escapes b h
-
--- a byte that goes as itself is no 7e
-is7e-other : (b : ℕ) → ltb (codeOf b) 7 ≡ false → is7e b ≡ false
-unfolding codeOf
-is7e-other b h = go (is7e b) refl
-  where
-    go : (t : Bool) → is7e b ≡ t → is7e b ≡ false
-    go false e = e
-    go true e = let z : ltb (codeOf 0x7e) 7 ≡ false = rw (eqb-true b 0x7e e) at h in cc
 
 -- A FRAME'S BODY
 
@@ -87,12 +63,12 @@ module _ (limit : ℕ) (check : List ℕ → ℕ) where
 
   -- one byte of the body
   goes-escapedByte : (b : ℕ) (body more : List ℕ) → length body < limit → goes (escapedByte b ++ more) (inside body) ≡ goes more (inside (body ++ (b ∷ [])))
-  unfolding run reach escapedByte meaning
-  goes-escapedByte b body more h = go (ltb (codeOf b) 7) refl
+  unfolding run reach
+  goes-escapedByte b body more h = go (escapedByte b) (escapedByte-on b)
     where
-      go : (t : Bool) → ltb (codeOf b) 7 ≡ t → goes (cond t (0x7e ∷ codeOf b ∷ []) (b ∷ []) ++ more) (inside body) ≡ goes more (inside (body ++ (b ∷ [])))
-      go true e = rw (e, lt-ltb (length body) limit h, unescapedOf-codeOf b (ltb-true (codeOf b) 7 e))
-      go false e = rw (is7e-other b e, lt-ltb (length body) limit h)
+      go : (w : List ℕ) → OnTheWire b w → goes (w ++ more) (inside body) ≡ goes more (inside (body ++ (b ∷ [])))
+      go w (itself code n) = let e : is7e b ≡ false = ne-eqb b 0x7e n in rw (e, reach, lt-ltb (length body) limit h)
+      go w (coded below m value) = rw (m, reach, lt-ltb (length body) limit h, value)
 
   goes-escaped : (bs body more : List ℕ) → length body + length bs ≤ limit → goes (escaped bs ++ more) (inside body) ≡ goes more (inside (body ++ bs))
   unfolding escaped
