@@ -5,3 +5,6 @@ pub mod Once
 pub mod Machine
 pub mod Books
 pub mod Verdicts
+pub mod ReadBack
+pub mod Marked
+pub mod Within
