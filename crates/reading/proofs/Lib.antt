@@ -1,0 +1,4 @@
+pub mod Reader
+pub mod Unique
+pub mod Exists
+pub mod Once
