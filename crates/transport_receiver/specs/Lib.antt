@@ -1,0 +1,3 @@
+pub mod Counters
+pub mod State
+pub mod Lent
