@@ -11,7 +11,7 @@ use borrow.Author.Tests.{eqb-true, ltb-true, ltb-false}
 use Rattle.escaping.specs.Escapes.{Meaning, datum, opener, closer, neither, meaning}
 use Rattle.reading.specs.Grammar as g
 use Rattle.reading.specs.Grammar.{Line, idle, noisy, Unit, raw, pair, Opener, here, before, Ending, closed, broken-by, giant-by, escaped-by, unfinished, unfinished-7e, Start, whole, half, TailEnd, at-closer, at-opener, runs-out, runs-out-7e, Piece, outside-byte, outside-pair, outside-7e, frame, tail, unitBytes, openerBytes, endingBytes, tailEndBytes, pieceBytes, join, Next, outside, opened, overlong, nothing, afterTail, skips, is7e, leadsTo, DataUnit, Skipped, All, Ends, by-closer, by-break, by-raw, by-escape, by-end, by-end-7e, Follows, ends, ended, byte, any-other-pair, lone-7e, opens-here, opened-before, one-tail, Reading}
-use Rattle.reading.proofs.Reader.{Hand, out, out-7e, in-frame, in-frame-7e, due, in-tail, in-tail-7e, Move, goes, gives, led, finish, step, pieces, piecesOf}
+use Rattle.reading.proofs.Reader.{Hand, clear, clear-7e, in-frame, in-frame-7e, due, in-tail, in-tail-7e, Move, goes, gives, led, finish, step, pieces, piecesOf}
 
 -- the opener is 07, the closer 08
 meaning-opener : (b : ℕ) → meaning b ≡ opener → b ≡ 0x07
@@ -63,8 +63,8 @@ led-bytes (some b) us e = refl
 
 -- the bytes of what is in hand
 abbrev held : Hand → List ℕ
-held (out l) = []
-held out-7e = 0x7e ∷ []
+held (clear l) = []
+held clear-7e = 0x7e ∷ []
 held (in-frame o us) = openerBytes o ++ unitBytes us
 held (in-frame-7e o us) = openerBytes o ++ (unitBytes us ++ (0x7e ∷ []))
 held due = []
@@ -76,12 +76,12 @@ module _ (limit : ℕ) where
   abbrev Kept : Hand → ℕ → List ℕ → Type 0
   Kept h b bs = join (step limit h b .done) ++ (held (step limit h b .hand) ++ bs) ≡ held h ++ (b ∷ bs)
 
-  kept-out : (l : Line) (b : ℕ) (bs : List ℕ) (t : Bool) → is7e b ≡ t → Kept (out l) b bs
+  kept-out : (l : Line) (b : ℕ) (bs : List ℕ) (t : Bool) → is7e b ≡ t → Kept (clear l) b bs
   unfolding join
   kept-out l b bs true e = rw (e, eqb-true b 0x7e e)
   kept-out l b bs false e = rw e
 
-  kept-out-7e : (b : ℕ) (bs : List ℕ) (m : Meaning) → meaning b ≡ m → Kept out-7e b bs
+  kept-out-7e : (b : ℕ) (bs : List ℕ) (m : Meaning) → meaning b ≡ m → Kept clear-7e b bs
   unfolding join unitBytes
   kept-out-7e b bs opener e = rw (e, meaning-opener b e)
   kept-out-7e b bs datum e = rw e
@@ -122,8 +122,8 @@ module _ (limit : ℕ) where
   kept-tail-7e l us b bs neither e = rw e (simp (unitBytes-append, append-assoc))
 
   kept : (h : Hand) (b : ℕ) (bs : List ℕ) → Kept h b bs
-  kept (out l) b bs = kept-out l b bs (is7e b) refl
-  kept out-7e b bs = kept-out-7e b bs (meaning b) refl
+  kept (clear l) b bs = kept-out l b bs (is7e b) refl
+  kept clear-7e b bs = kept-out-7e b bs (meaning b) refl
   kept (in-frame o us) b bs = kept-frame o us b bs (is7e b) (ltb (length us) limit) refl refl
   kept (in-frame-7e o us) b bs = kept-frame-7e o us b bs (meaning b) (ltb (length us) limit) refl refl
   kept due b bs = kept-due b bs (meaning b) refl
@@ -132,8 +132,8 @@ module _ (limit : ℕ) where
 
   kept-finish : (h : Hand) → join (finish h) ≡ held h ++ []
   unfolding join unitBytes
-  kept-finish (out l) = refl
-  kept-finish out-7e = refl
+  kept-finish (clear l) = refl
+  kept-finish clear-7e = refl
   kept-finish (in-frame o us) = simp append-nil
   kept-finish (in-frame-7e o us) = refl
   kept-finish due = refl
@@ -167,8 +167,8 @@ module _ (limit : ℕ) where
 
   -- what is in hand was begun at a place, and is right so far
   data At : Hand → Next → Type 0 where
-    at-out : {l : Line} → At (out l) (outside l)
-    at-out-7e : {l : Line} → At out-7e (outside l)
+    at-out : {l : Line} → At (clear l) (outside l)
+    at-out-7e : {l : Line} → At clear-7e (outside l)
     at-frame : {o : Opener} {us : List Unit} {at : Next} → Begins o at → All DataUnit us → length us ≤ limit → At (in-frame o us) at
     at-frame-7e : {o : Opener} {us : List Unit} {at : Next} → Begins o at → All DataUnit us → length us ≤ limit → At (in-frame-7e o us) at
     at-due : At due (overlong half)
@@ -181,11 +181,11 @@ module _ (limit : ℕ) where
   abbrev Judged : Hand → ℕ → List ℕ → Next → Type 0
   Judged h b bs at = Follows limit at (step limit h b .done ++ pieces limit bs (step limit h b .hand))
 
-  judged-out : (l : Line) (b : ℕ) (bs : List ℕ) → Later bs → (t : Bool) → is7e b ≡ t → Judged (out l) b bs (outside l)
+  judged-out : (l : Line) (b : ℕ) (bs : List ℕ) → Later bs → (t : Bool) → is7e b ≡ t → Judged (clear l) b bs (outside l)
   judged-out l b bs ih true e = rw e (ih _ _ at-out-7e)
   judged-out l b bs ih false e = rw e (byte {b = b} e refl (ih _ _ at-out))
 
-  judged-out-7e : (l : Line) (b : ℕ) (bs : List ℕ) → Later bs → (m : Meaning) → meaning b ≡ m → Judged out-7e b bs (outside l)
+  judged-out-7e : (l : Line) (b : ℕ) (bs : List ℕ) → Later bs → (m : Meaning) → meaning b ≡ m → Judged clear-7e b bs (outside l)
   judged-out-7e l b bs ih opener e = rw e (ih _ _ (at-frame by-own g.none (omega arith)))
   judged-out-7e l b bs ih datum e = rw e (any-other-pair {b = b} (rw e) (ih _ _ at-out))
   judged-out-7e l b bs ih closer e = rw e (any-other-pair {b = b} (rw e) (ih _ _ at-out))
@@ -245,4 +245,4 @@ module _ (limit : ℕ) where
 
   -- a reading exists
   pub exists : (bs : List ℕ) → Reading limit bs (piecesOf limit bs)
-  exists bs = record { joined = join-pieces bs (out idle); judged = follows-pieces bs (out idle) (outside idle) at-out }
+  exists bs = record { joined = join-pieces bs (clear idle); judged = follows-pieces bs (clear idle) (outside idle) at-out }

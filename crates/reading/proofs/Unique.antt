@@ -11,7 +11,7 @@ use borrow.Author.Tests.{lt-ltb, le-ltb}
 use Rattle.escaping.specs.Escapes.{Meaning, datum, opener, closer, neither, meaning}
 use Rattle.reading.specs.Grammar as g
 use Rattle.reading.specs.Grammar.{Line, idle, noisy, Unit, raw, pair, Opener, here, before, Ending, closed, broken-by, giant-by, escaped-by, unfinished, unfinished-7e, Start, whole, half, TailEnd, at-closer, at-opener, runs-out, runs-out-7e, Piece, outside-byte, outside-pair, outside-7e, frame, tail, unitBytes, openerBytes, endingBytes, tailEndBytes, pieceBytes, join, Next, outside, opened, overlong, nothing, afterTail, breaks, skips, opens, DataUnit, Skipped, All, startsSo, Ends, by-closer, by-break, by-raw, by-escape, by-end, by-end-7e, Follows, ends, ended, byte, any-other-pair, lone-7e, opens-here, opened-before, one-tail, Reading}
-use Rattle.reading.proofs.Reader.{Hand, out, out-7e, in-frame, in-frame-7e, due, in-tail, in-tail-7e, Move, goes, gives, led, startAt, finish, pairOutside, pairInTail, pairDue, pairInFrame, step, pieces, piecesOf}
+use Rattle.reading.proofs.Reader.{Hand, clear, clear-7e, in-frame, in-frame-7e, due, in-tail, in-tail-7e, Move, goes, gives, led, startAt, finish, pairOutside, pairInTail, pairDue, pairInFrame, step, pieces, piecesOf}
 
 -- what a pair does to the piece in hand, by the rule that it meets
 pairInTail-skips : (l : Option ℕ) (us : List Unit) (b : ℕ) (m : Meaning) → skips m ≡ true → pairInTail l us b m ≡ goes (in-tail l (us ++ (pair b ∷ [])))
@@ -26,14 +26,14 @@ pairDue-skips b neither e = refl
 pairDue-skips b opener e = cc
 pairDue-skips b closer e = cc
 
-pairOutside-other : (b : ℕ) (m : Meaning) → opens m ≡ false → pairOutside b m ≡ gives (outside-pair b) (out noisy)
+pairOutside-other : (b : ℕ) (m : Meaning) → opens m ≡ false → pairOutside b m ≡ gives (outside-pair b) (clear noisy)
 pairOutside-other b datum e = refl
 pairOutside-other b neither e = refl
 pairOutside-other b closer e = refl
 pairOutside-other b opener e = cc
 
 module _ (limit : ℕ) where
-  pairInFrame-breaks : (o : Opener) (us : List Unit) (b : ℕ) (m : Meaning) → breaks m ≡ true → pairInFrame limit o us b m ≡ gives (frame o us (broken-by b)) (out noisy)
+  pairInFrame-breaks : (o : Opener) (us : List Unit) (b : ℕ) (m : Meaning) → breaks m ≡ true → pairInFrame limit o us b m ≡ gives (frame o us (broken-by b)) (clear noisy)
   pairInFrame-breaks o us b datum e = cc
   pairInFrame-breaks o us b closer e = cc
   pairInFrame-breaks o us b opener e = refl

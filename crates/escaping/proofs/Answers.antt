@@ -1,0 +1,54 @@
+-- Two answers that 01 cannot tell apart are one answer, so that each contract of this crate determines its own;
+-- and the cases of `escape` that a caller with room meets. Assumes nothing.
+use mathlib.Core.Path.{_≡_, refl, ap}
+use Prim.Native.Nat.{ℕ, _≤_, _<_}
+use mathlib.Core.List.{List}
+use lib.ListN.{length}
+use borrow.Author.Tests.{lt-ltb, le-ltb}
+use Rattle.laws.specs.Bytes.{laidOver}
+use Rattle.laws.specs.Handed.{Handed, refused, value}
+use Rattle.escaping.specs.Escapes.{escaped}
+use Rattle.escaping.specs.Handed.{handedByte, handedLength, handedWritten, inputLimit, lengthHanded, escapeHanded, escapeBytes}
+use Rattle.escaping.specs.declared.Unescaped.{Unescaped}
+use Rattle.escaping.specs.declared.Unescaped.the-variants.{Byte, Invalid}
+use Rattle.escaping.specs.declared.Measured.{Measured}
+use Rattle.escaping.specs.declared.Measured.the-variants.{Length, TooLong as TooLongToMeasure}
+use Rattle.escaping.specs.declared.Escaped.{Escaped}
+use Rattle.escaping.specs.declared.Escaped.the-variants.{Written, TooLong, NoRoom}
+
+pub handedByte-same : (a b : Unescaped) → handedByte a ≡ handedByte b → a ≡ b
+handedByte-same (Byte m) (Byte n) e = cc
+handedByte-same (Byte m) Invalid e = cc
+handedByte-same Invalid (Byte n) e = cc
+handedByte-same Invalid Invalid e = refl
+
+pub handedLength-same : (a b : Measured) → handedLength a ≡ handedLength b → a ≡ b
+handedLength-same (Length m) (Length n) e = cc
+handedLength-same (Length m) TooLongToMeasure e = cc
+handedLength-same TooLongToMeasure (Length n) e = cc
+handedLength-same TooLongToMeasure TooLongToMeasure e = refl
+
+pub handedWritten-same : (a b : Escaped) → handedWritten a ≡ handedWritten b → a ≡ b
+handedWritten-same (Written m) (Written n) e = cc
+handedWritten-same (Written m) TooLong e = cc
+handedWritten-same (Written m) NoRoom e = cc
+handedWritten-same TooLong (Written n) e = cc
+handedWritten-same TooLong TooLong e = refl
+handedWritten-same TooLong NoRoom e = cc
+handedWritten-same NoRoom (Written n) e = cc
+handedWritten-same NoRoom TooLong e = cc
+handedWritten-same NoRoom NoRoom e = refl
+
+-- an input within the limit, and room for its escaped form: `encode` cites these
+module _ (input : List ℕ) (within : length input ≤ inputLimit) where
+  pub lengthHanded-within : lengthHanded input ≡ value (length (escaped input))
+  unfolding lengthHanded
+  lengthHanded-within = rw (le-ltb inputLimit (length input) within)
+
+  pub escapeHanded-fits : (room : ℕ) → length (escaped input) ≤ room → escapeHanded input room ≡ value (length (escaped input))
+  unfolding escapeHanded
+  escapeHanded-fits room h = rw (le-ltb inputLimit (length input) within, le-ltb room (length (escaped input)) h)
+
+  pub escapeBytes-fits : (out : List ℕ) → length (escaped input) ≤ length out → escapeBytes input out ≡ laidOver (escaped input) out
+  unfolding escapeBytes
+  escapeBytes-fits out h = rw (le-ltb inputLimit (length input) within, le-ltb (length out) (length (escaped input)) h)
