@@ -1,3 +1,4 @@
 pub mod Counters
+pub mod Types
 pub mod State
 pub mod Lent
