@@ -1,2 +1,4 @@
 pub mod Table
 pub mod Bits
+pub mod Lay
+pub mod Bytes

@@ -1,0 +1,4 @@
+pub mod Counters
+pub mod Types
+pub mod State
+pub mod Lent
