@@ -2,8 +2,11 @@
 // A door has no `requires`, so a caller owes nothing but what the parameters' types say.
 // An answer is one number: a value, or 2^32 times the number of 01's table by which it is refused.
 ghost use mathlib.Core.Path.{_≡_};
+ghost use mathlib.Core.Logic.{_↔_};
+ghost use mathlib.Core.Bool.{true};
 ghost use Rattle.crc.specs.Crc.{crcOf};
 ghost use Rattle.escaping.specs.Handed.{unescapeHanded};
+ghost use Rattle.utf8.specs.Utf8.{Text};
 ghost use Rattle.doors.specs.Numbered.{numbered};
 
 // The check of a slice.
@@ -24,4 +27,12 @@ pub extern "C" fn johkkesir_unescaped_byte(code: u8) -> u64
         escaping::Unescaped::Byte(b) => b as u64,
         escaping::Unescaped::Invalid => 14 << 32,
     }
+}
+
+// Whether the bytes are a text: UTF-8, and not empty.
+#[no_mangle]
+pub extern "C" fn johkkesir_is_text(s: &[u8]) -> bool
+    ensures { λ r. ⌜ (r ≡ true) ↔ Text (now (s .entry)) ⌝ }
+{
+    utf8::is_text(s)
 }

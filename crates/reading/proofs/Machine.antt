@@ -3,7 +3,7 @@
 use mathlib.Core.Path.{_≡_, refl, sym, _∙_, ap}
 use Prim.Native.Nat.{ℕ, suc, _+_, _≤_, _<_}
 use mathlib.Core.Bool.{Bool, true, false, cond}
-use mathlib.Core.List.{List, [], _∷_, _++_, append-assoc, append-nil, map}
+use mathlib.Core.List.{List, [], _∷_, _++_, append-assoc, append-nil, map-append}
 use mathlib.Core.Option.{Option, none, some}
 use lib.ListN.{length, length-append, length-map}
 use lib.Dec.{ltb}
@@ -101,10 +101,6 @@ module _ (limit : ℕ) (check : List ℕ → ℕ) where
   leftFrom-append r [] qs = refl
   leftFrom-append r (p ∷ ps) qs = leftFrom-append (restOf p) ps qs
 
-  bodyIn-append : (us vs : List Unit) → bodyIn (us ++ vs) ≡ bodyIn us ++ bodyIn vs
-  bodyIn-append [] vs = refl
-  bodyIn-append (u ∷ us) vs = ap (λ l. value u ∷ l) (bodyIn-append us vs)
-
   -- THE READER AND THE MACHINE GO TOGETHER
 
   -- where the machine rests while the reader has this in hand: the body, however it was written
@@ -168,14 +164,14 @@ module _ (limit : ℕ) (check : List ℕ → ℕ) where
   unfolding eventsIn leftFrom
   together-frame o us b true u e f = record { to-same = rw e; events-same = rw e; left-same = λ r. rw e }
   together-frame o us b false true e f =
-      record { to-same = rw (e, length-map us value, f) (rw bodyIn-append); events-same = rw (e, length-map us value, f); left-same = λ r. rw (e, f) }
+      record { to-same = rw (e, length-map us value, f) (rw (map-append value)); events-same = rw (e, length-map us value, f); left-same = λ r. rw (e, f) }
   together-frame o us b false false e f =
       record { to-same = rw (e, length-map us value, f); events-same = rw (e, length-map us value, f); left-same = λ r. rw (e, f) }
 
   together-frame-7e : (o : Opener) (us : List Unit) (b : ℕ) (m : Meaning) (u : Bool) → meaning b ≡ m → ltb (length us) limit ≡ u → Together (in-frame-7e o us) b
   unfolding eventsIn leftFrom
   together-frame-7e o us b datum true e f =
-      record { to-same = rw (e, length-map us value, f) (rw bodyIn-append); events-same = rw (e, length-map us value, f); left-same = λ r. rw (e, f) }
+      record { to-same = rw (e, length-map us value, f) (rw (map-append value)); events-same = rw (e, length-map us value, f); left-same = λ r. rw (e, f) }
   together-frame-7e o us b datum false e f =
       record { to-same = rw (e, length-map us value, f); events-same = rw (e, length-map us value, f); left-same = λ r. rw (e, f) }
   together-frame-7e o us b opener u e f = record { to-same = rw e; events-same = rw e; left-same = λ r. rw e }

@@ -44,9 +44,9 @@ module _ (limit : ℕ) where
       → pieces limit (unitBytes us ++ rest) (in-frame o acc) ≡ pieces limit rest (in-frame o (acc ++ us))
   unfolding unitBytes pieces
   pieces-units o acc us rest g.none h = rw append-nil
-  pieces-units o acc us rest (g.also {u = raw b} {us = vs} f r) h =
+  pieces-units o acc us rest (g.also {x = raw b} {xs = vs} f r) h =
       rw (f, lt-ltb (length acc) limit (omega arith)) (pieces-units o (acc ++ (raw b ∷ [])) vs rest r (simp length-append (omega arith)) ∙ rw append-assoc)
-  pieces-units o acc us rest (g.also {u = pair b} {us = vs} f r) h =
+  pieces-units o acc us rest (g.also {x = pair b} {xs = vs} f r) h =
       rw (f, lt-ltb (length acc) limit (omega arith)) (pieces-units o (acc ++ (pair b ∷ [])) vs rest r (simp length-append (omega arith)) ∙ rw append-assoc)
 
   -- and what a tail skips
@@ -54,8 +54,8 @@ module _ (limit : ℕ) where
       → pieces limit (unitBytes us ++ rest) (in-tail l acc) ≡ pieces limit rest (in-tail l (acc ++ us))
   unfolding unitBytes pieces
   pieces-skipped l acc us rest g.none = rw append-nil
-  pieces-skipped l acc us rest (g.also {u = raw b} {us = vs} f r) = rw f (pieces-skipped l (acc ++ (raw b ∷ [])) vs rest r ∙ rw append-assoc)
-  pieces-skipped l acc us rest (g.also {u = pair b} {us = vs} f r) =
+  pieces-skipped l acc us rest (g.also {x = raw b} {xs = vs} f r) = rw f (pieces-skipped l (acc ++ (raw b ∷ [])) vs rest r ∙ rw append-assoc)
+  pieces-skipped l acc us rest (g.also {x = pair b} {xs = vs} f r) =
       rw (pairInTail-skips l acc b (meaning b) f) (pieces-skipped l (acc ++ (pair b ∷ [])) vs rest r ∙ rw append-assoc)
 
   -- the pieces that may follow are found again

@@ -140,10 +140,10 @@ abbrev pub Skipped : Unit → Type 0
 Skipped (raw b) = is7e b ≡ false
 Skipped (pair b) = skips (meaning b) ≡ true
 
--- each unit of a list is such
-pub data All (P : Unit → Type 0) : List Unit → Type 0 where
+-- each element of a list is such
+pub data All {A : Type 0} (P : A → Type 0) : List A → Type 0 where
   none : All P []
-  also : {u : Unit} {us : List Unit} → P u → All P us → All P (u ∷ us)
+  also : {x : A} {xs : List A} → P x → All P xs → All P (x ∷ xs)
 
 -- "Then the tail, whose first byte is read as the second half of a pair": with the missing 7e put back, the tail starts with a pair
 abbrev pub startsWithPair : List Unit → TailEnd → Bool
