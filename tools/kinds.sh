@@ -9,8 +9,7 @@ KINDS="address::GatewayID link::Type"
 work=$(mktemp -d)
 trap 'rm -rf "$work"' EXIT
 libraries=(-L "dependency=$PWD/target/rlib")
-for kind in $KINDS; do
-    crate=${kind%%::*}
+for crate in $(printf '%s\n' $KINDS | sed 's/::.*//' | sort -u); do
     [ -d "target/rlib/$crate.rlib" ] || { echo "kinds: target/rlib/$crate.rlib is missing: run rt check first"; exit 2; }
     libraries+=(--extern "$crate=$PWD/target/rlib/$crate.rlib")
 done
@@ -32,7 +31,7 @@ for from in $KINDS; do
             fi
         elif accepts "$from" "$to"; then
             echo "kinds: $from stands in for $to"; exit 1
-        elif ! grep -q 'mismatched types' "$work/said"; then
+        elif ! grep -q 'error\[mismatched-types\]' "$work/said"; then
             echo "kinds: $from for $to is refused, but not for its type:"; cat "$work/said"; exit 1
         fi
         passed=$((passed + 1))
