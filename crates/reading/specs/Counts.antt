@@ -156,6 +156,15 @@ openIn (inside-7e body) = 1
 openIn over = 0
 openIn over-7e = 0
 
+-- the body so far; "outside an open frame the body counts as empty"
+abbrev pub bodyLeft : Rest → List ℕ
+bodyLeft (out l) = []
+bodyLeft out-7e = []
+bodyLeft (inside body) = body
+bodyLeft (inside-7e body) = body
+bodyLeft over = []
+bodyLeft over-7e = []
+
 -- THE LEDGER
 
 module _ (check : List ℕ → ℕ) where
