@@ -1,7 +1,7 @@
 -- The marked cases hold, for any check: one test that antt computes over the rows. Assumes nothing.
 use mathlib.Core.Path.{_≡_, refl}
 use Prim.Native.Nat.{ℕ}
-use mathlib.Core.List.{List, [], _∷_, _++_, map}
+use mathlib.Core.List.{List, [], _∷_, map}
 use Rattle.escaping.specs.Escapes.{meaning}
 use Rattle.reading.specs.Grammar as g
 use Rattle.reading.specs.Grammar.{All, unitLimit}

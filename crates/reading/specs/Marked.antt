@@ -1,9 +1,8 @@
 -- 01, "Marked cases", those of the link: one list of rows, and what it is for a row to hold. Over any check. Assumes nothing.
-use mathlib.Core.Path.{_≡_}
 use Prim.Native.Nat.{ℕ}
 use mathlib.Core.List.{List, [], _∷_, _++_}
 use lib.ListN.{replicate}
-use Rattle.reading.specs.Grammar.{Line, idle, noisy, unitLimit}
+use Rattle.reading.specs.Grammar.{idle, noisy, unitLimit}
 use Rattle.reading.specs.Counts.{Rest, out, out-7e, inside, inside-7e, over, over-7e}
 use Rattle.reading.specs.Accounts.{Account, Tells}
 
