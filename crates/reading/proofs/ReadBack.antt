@@ -6,7 +6,7 @@ use mathlib.Core.Bool.{Bool, true, false, cond}
 use mathlib.Core.List.{List, [], _∷_, _++_, append-assoc, append-nil, map-append}
 use native.Mathlib.Omega.{arith}
 use native.Mathlib.Nat.{div-add-mod'}
-use lib.ListN.{length, length-append, take}
+use lib.ListN.{length, length-append}
 use lib.Seq.{take-at, getD-append-add}
 use lib.Dec.{ltb}
 use borrow.Author.Tests.{ne-eqb, eq-eqb, lt-ltb}
@@ -15,6 +15,7 @@ use Rattle.escaping.specs.Escapes.{meaning, escapedByte, escaped}
 use Rattle.escaping.proofs.Laws.{OnTheWire, itself, coded, escapedByte-on}
 use Rattle.link.specs.Wire as wire
 use Rattle.link.specs.Wire.{Frame, startOf, checkedOf, frameOf, bodyOf, encodedOf}
+use Rattle.link.proofs.Body.{length-bodyOf, frameOf-bodyOf}
 use Rattle.reading.specs.Kinds.{Kind, openings, frames, same}
 use Rattle.reading.specs.Grammar.{Line, idle, noisy, Piece, Reading, is7e}
 use Rattle.reading.specs.Counts.{sound, checks, verdict, Rest, out, inside, inside-7e, left, one, count, soundBodies, soundFrames}
@@ -23,16 +24,6 @@ use Rattle.reading.proofs.Books.{tally, bodies, count-more, left-more, 
 use Rattle.reading.proofs.Verdicts.{verdict-sound}
 
 -- A FRAME'S BODY
-
--- what a frame's body says is the frame
-pub frameOf-bodyOf : (check : List ℕ → ℕ) (f : Frame) → frameOf (bodyOf check f) ≡ f
-frameOf-bodyOf check f =
-    let n : length (bodyOf check f) - 2 ≡ length (checkedOf f) = simp length-append (omega arith) in
-    let t : take (length (bodyOf check f) - 2) (bodyOf check f) ≡ checkedOf f = take-at (checkedOf f) (le16 (check (checkedOf f))) _ (sym n) in
-    rw (t, div-add-mod' (f .address) 256, div-add-mod' (f .kind) 256)
-
-pub length-bodyOf : (check : List ℕ → ℕ) (f : Frame) → length (bodyOf check f) ≡ length (f .payload) + 6
-length-bodyOf check f = simp length-append (omega arith)
 
 -- a list that carries its check is sound
 checks-append : (check : List ℕ → ℕ) (front : List ℕ) (c : ℕ) → check front ≡ c → checks check (front ++ le16 c) ≡ true
