@@ -49,7 +49,7 @@ encodedOf-almostOf check f = simp append-assoc
 
 module _ (limit : ℕ) (check : List ℕ → ℕ) where
   -- events and rest of a run
-  abbrev goes : List ℕ → Rest → Beat
+  abbrev pub goes : List ℕ → Rest → Beat
   goes bs r = record { events = run limit check bs r; to = reach limit check bs r }
 
   -- one byte of the body
