@@ -1,5 +1,5 @@
 -- The 33 counters, by the source's names and in its order (`Counters` of transport/receiver.rs): the place of each. Assumes nothing.
-use Prim.Native.Nat.{ℕ}
+use Prim.Native.Nat.{ℕ, _+_, _%_, _^_}
 use mathlib.Core.List.{List}
 use lib.ListN.{getD, set}
 use Rattle.laws.specs.Wrap.{raised}
@@ -104,5 +104,8 @@ abbrev pub invalid-identify-responses : ℕ
 invalid-identify-responses = 32
 
 -- 01, "Transport": transport counters wrap at 2^64
+abbrev pub add : ℕ → ℕ → List ℕ → List ℕ
+add n i counters = set counters i ((getD counters i 0 + n) % 2 ^ 64)
+
 abbrev pub raise : ℕ → List ℕ → List ℕ
 raise i counters = set counters i (raised (getD counters i 0))

@@ -13,6 +13,8 @@ use Rattle.transport_receiver.specs.State.{commandKey}
 use Rattle.transport_receiver.specs.Types
 use Rattle.transport_receiver.specs.Types.{counterOf}
 use Rattle.utf8.specs.Scan.{isText}
+use Rattle.transport_receiver.specs.declared.Receiver.{Receiver}
+use Rattle.transport_receiver.specs.declared.Stepped.{Stepped}
 use Rattle.transport_receiver.specs.declared.Answer.{Answer}
 use Rattle.transport_receiver.specs.declared.Answer.the-variants.{WrongDirection, WrongLength, NumbersFull, SequencesFull, CommandsFull, NoRequest, CommandKept, SlotCounterCaptured, CommandExecuted, NamesFrom, InvalidVersion, UnhandledType, EnumerationStarted, IdentityObserved, VersionObserved, EnumerationEnded}
 use Rattle.transport_receiver.specs.declared.Answer.the-variants as variant
@@ -169,3 +171,22 @@ untabledIn cs from g kind p =
     (cond (eqb kind Types.version-response) (versionIn cs from p)
     (cond (eqb kind Types.enumeration-end-response) (enumerationEndIn cs from)
     (countIn cs kind)))))
+
+-- the whole state after each
+abbrev pub afterCounted : Receiver → Counted → Stepped
+afterCounted r c = record { answer = c .answer; receiver = record { nkeys = r .nkeys; numbers = r .numbers; skeys = r .skeys; sequences = r .sequences; ckeys = r .ckeys; ctypes = r .ctypes; clengths = r .clengths; cpayloads = r .cpayloads; counters = c .counters } }
+
+abbrev pub afterAsked : Receiver → Asked → Stepped
+afterAsked r a = record { answer = a .answer; receiver = record { nkeys = a .nkeys; numbers = a .numbers; skeys = r .skeys; sequences = r .sequences; ckeys = r .ckeys; ctypes = r .ctypes; clengths = r .clengths; cpayloads = r .cpayloads; counters = a .counters } }
+
+abbrev pub afterRequested : Receiver → Requested → Stepped
+afterRequested r a = record { answer = a .answer; receiver = record { nkeys = r .nkeys; numbers = r .numbers; skeys = a .noted .skeys; sequences = a .noted .sequences; ckeys = a .seated .ckeys; ctypes = a .seated .ctypes; clengths = a .seated .clengths; cpayloads = a .seated .cpayloads; counters = a .noted .counters } }
+
+abbrev pub afterAnswered : Receiver → Answered → Stepped
+afterAnswered r a = record { answer = a .answer; receiver = record { nkeys = r .nkeys; numbers = r .numbers; skeys = r .skeys; sequences = r .sequences; ckeys = a .ckeys; ctypes = r .ctypes; clengths = r .clengths; cpayloads = r .cpayloads; counters = a .counters } }
+
+abbrev pub notedOf : Receiver → Noted
+notedOf r = noted (r .skeys) (r .sequences) (r .counters)
+
+abbrev pub seatedOf : Receiver → Seated
+seatedOf r = record { ckeys = r .ckeys; ctypes = r .ctypes; clengths = r .clengths; cpayloads = r .cpayloads }

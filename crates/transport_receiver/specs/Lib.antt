@@ -2,3 +2,5 @@ pub mod Counters
 pub mod Types
 pub mod State
 pub mod Lent
+pub mod Step
+pub mod Handed

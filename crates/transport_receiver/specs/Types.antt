@@ -59,6 +59,37 @@ enumeration-end-request = 0x0e02
 abbrev pub enumeration-end-response : ℕ
 enumeration-end-response = 0x0006
 
+-- whether a type is one of these
+abbrev pub isOneOf : List ℕ → ℕ → Bool
+isOneOf [] k = false
+isOneOf (t ∷ ts) k = cond (eqb k t) true (isOneOf ts k)
+
+-- 01, "On the wire": the named frame types are the eighteen constants that belong to `Type`
+abbrev pub named : List ℕ
+named =
+    receive-request
+    ∷ receive-response
+    ∷ command-request
+    ∷ command-response
+    ∷ ping-request
+    ∷ ping-response
+    ∷ enumeration-start-request
+    ∷ enumeration-start-response
+    ∷ enumeration-request
+    ∷ enumeration-response
+    ∷ assign-gateway-id-request
+    ∷ assign-gateway-id-response
+    ∷ identify-request
+    ∷ identify-response
+    ∷ version-request
+    ∷ version-response
+    ∷ enumeration-end-request
+    ∷ enumeration-end-response
+    ∷ []
+
+abbrev pub isNamed : ℕ → Bool
+isNamed k = isOneOf named k
+
 -- a type and a counter
 pub record Row : Type 0 where
   pub kind : ℕ
@@ -89,3 +120,20 @@ countedOnly =
 -- the counter of a type that is only counted; any other type is unhandled
 unfoldable pub counterOf : ℕ → ℕ
 counterOf kind = beside countedOnly kind Counters.unhandled-frame-type
+
+-- the source's counter for an invalid frame of a type
+abbrev pub invalids : List Row
+invalids =
+    row receive-request Counters.invalid-receive-request
+    ∷ row receive-response Counters.invalid-receive-responses
+    ∷ row command-request Counters.invalid-command-requests
+    ∷ row command-response Counters.invalid-command-responses
+    ∷ row enumeration-start-request Counters.invalid-enumeration-start-request
+    ∷ row enumeration-response Counters.invalid-enumeration-responses
+    ∷ row version-response Counters.invalid-version-responses
+    ∷ row enumeration-end-response Counters.invalid-enumeration-end-responses
+    ∷ row identify-response Counters.invalid-identify-responses
+    ∷ []
+
+abbrev pub invalidOf : ℕ → ℕ
+invalidOf kind = beside invalids kind Counters.unhandled-frame-type

@@ -16,22 +16,39 @@ use counters::*;
 pub mod counters;
 
 const RECEIVE_REQUEST: u16 = 0x0148;
+
 const RECEIVE_RESPONSE: u16 = 0x0149;
+
 const COMMAND_REQUEST: u16 = 0x0b0f;
+
 const COMMAND_RESPONSE: u16 = 0x0b10;
+
 const PING_REQUEST: u16 = 0x0b00;
+
 const PING_RESPONSE: u16 = 0x0b01;
+
 const ENUMERATION_START_REQUEST: u16 = 0x0014;
+
 const ENUMERATION_START_RESPONSE: u16 = 0x0015;
+
 const ENUMERATION_REQUEST: u16 = 0x0038;
+
 const ENUMERATION_RESPONSE: u16 = 0x0039;
+
 const ASSIGN_GATEWAY_ID_REQUEST: u16 = 0x003c;
+
 const ASSIGN_GATEWAY_ID_RESPONSE: u16 = 0x003d;
+
 const IDENTIFY_REQUEST: u16 = 0x003a;
+
 const IDENTIFY_RESPONSE: u16 = 0x003b;
+
 const VERSION_REQUEST: u16 = 0x000a;
+
 const VERSION_RESPONSE: u16 = 0x000b;
+
 const ENUMERATION_END_REQUEST: u16 = 0x0e02;
+
 const ENUMERATION_END_RESPONSE: u16 = 0x0006;
 
 // What a step answers: first the refusals of 01's table, then what an accepted frame says.
@@ -47,7 +64,9 @@ pub enum Answer {
     // 22
     UnknownStatusType,
     // 23, with the length needed
-    TooShort { needed: usize },
+    TooShort {
+        needed: usize,
+    },
     // 24
     UnknownGateway,
     // 25
@@ -70,7 +89,9 @@ pub enum Answer {
     Counted,
     CommandKept,
     // Enumeration started, using the gateway ID named.
-    EnumerationStarted { gateway: GatewayID },
+    EnumerationStarted {
+        gateway: GatewayID,
+    },
     // A gateway's address: the first 8 bytes of the payload.
     IdentityObserved,
     // A gateway's version: the payload.
@@ -78,10 +99,43 @@ pub enum Answer {
     EnumerationEnded,
     SlotCounterCaptured,
     // The packet number, the slot counter, whether the number repeats the one stored before; packets stand in the payload from `area` on.
-    SlotCounterObserved { number: u16, slot: u16, repeat: bool, area: usize },
+    SlotCounterObserved {
+        number: u16,
+        slot: u16,
+        repeat: bool,
+        area: usize,
+    },
     // The request's place in the table (`request_payload` gives its bytes), its packet type and payload length; the response's packet type.
     // The response's payload stands in the payload from 5 on.
-    CommandExecuted { place: usize, request: u8, length: u8, response: u8 },
+    CommandExecuted {
+        place: usize,
+        request: u8,
+        length: u8,
+        response: u8,
+    },
+}
+
+// The state: three tables and the counters, as arrays of numbers (`stateOf` of specs/State.antt says what they mean). A key of 0 is a free place.
+pub struct Receiver {
+    // 32 packet numbers: keys of gateways, numbers.
+    pub nkeys: [u32; 32],
+    pub numbers: [u16; 32],
+    // 32 last sequences: keys of gateways, sequences.
+    pub skeys: [u32; 32],
+    pub sequences: [u8; 32],
+    // 64 waiting commands: keys of gateway and sequence, packet types, payload lengths, and 245 bytes for each payload.
+    pub ckeys: [u32; 64],
+    pub ctypes: [u8; 64],
+    pub clengths: [u8; 64],
+    pub cpayloads: [u8; 15680],
+    // The counters, each at its place of `counters`.
+    pub counters: [u64; 33],
+}
+
+// A state, and what the step that led to it answers.
+pub struct Stepped {
+    pub receiver: Receiver,
+    pub answer: Answer,
 }
 
 fn raise(counters: &mut [u64; 33], i: usize)
@@ -276,13 +330,23 @@ fn command_response(
     if i < 64 {
         ckeys[i] = tables::FREE;
         raise(counters, COMMAND_RESPONSES);
-        return Answer::CommandExecuted { place: i, request: ctypes[i], length: clengths[i], response: payload[3] };
+        return Answer::CommandExecuted {
+            place: i,
+            request: ctypes[i],
+            length: clengths[i],
+            response: payload[3],
+        };
     }
     raise(counters, RETRANSMITTED_COMMAND_RESPONSES);
     Answer::NoRequest
 }
 
-fn enumeration_start_request(counters: &mut [u64; 33], from: bool, gateway: u16, payload: &[u8]) -> Answer
+fn enumeration_start_request(
+    counters: &mut [u64; 33],
+    from: bool,
+    gateway: u16,
+    payload: &[u8],
+) -> Answer
     ensures { λ r. ⌜ counted r (now (counters .exit)) ≡ enumerationStartIn (now (counters .entry)) from gateway (now (payload .entry)) ⌝ }
 {
     if from {
@@ -300,7 +364,9 @@ fn enumeration_start_request(counters: &mut [u64; 33], from: bool, gateway: u16,
     let named = number(payload[4], payload[5]);
     if named < 0x8000 {
         raise(counters, ENUMERATION_START_REQUESTS);
-        return Answer::EnumerationStarted { gateway: GatewayID(named) };
+        return Answer::EnumerationStarted {
+            gateway: GatewayID(named),
+        };
     }
     raise(counters, INVALID_ENUMERATION_START_REQUEST);
     Answer::NamesFrom
@@ -387,10 +453,22 @@ fn untabled(counters: &mut [u64; 33], from: bool, gateway: u16, kind: u16, paylo
         return enumeration_start_request(counters, from, gateway, payload);
     }
     if kind == ENUMERATION_RESPONSE {
-        return identity(counters, ENUMERATION_RESPONSES, INVALID_ENUMERATION_RESPONSES, from, payload);
+        return identity(
+            counters,
+            ENUMERATION_RESPONSES,
+            INVALID_ENUMERATION_RESPONSES,
+            from,
+            payload,
+        );
     }
     if kind == IDENTIFY_RESPONSE {
-        return identity(counters, IDENTIFY_RESPONSES, INVALID_IDENTIFY_RESPONSES, from, payload);
+        return identity(
+            counters,
+            IDENTIFY_RESPONSES,
+            INVALID_IDENTIFY_RESPONSES,
+            from,
+            payload,
+        );
     }
     if kind == VERSION_RESPONSE {
         return version_response(counters, from, payload);

@@ -14,25 +14,37 @@ Inv-loop d₀ at s j₀ d j = (j ≤ length s) × (length d ≡ length d₀) × 
 
 abbrev μ-loop : tie.MeasureT-loop
 μ-loop d₀ at s j₀ d j = length s - j
+
 loop-holds : tie.Need-loop-holds Inv-loop μ-loop
 loop-holds c = (search needs, search needs, paste-zero (c .args .d .now) (c .args .at) (c .args .s .now))
+
 shared-slice-read-d : tie.Need-shared-slice-read-d Inv-loop μ-loop
 shared-slice-read-d c = search needs
+
 add-d : tie.Need-add-d Inv-loop μ-loop
 add-d c = search needs
+
 slice-write-d : tie.Need-slice-write-d Inv-loop μ-loop
 slice-write-d c = search needs
+
 add-j : tie.Need-add-j Inv-loop μ-loop
 add-j c = search needs
+
 loop-less : tie.Need-loop-less Inv-loop μ-loop
 loop-less c = search needs
+
 loop-again : tie.Need-loop-again Inv-loop μ-loop
-loop-again c = (search needs, search needs,
-    let l = c .before .before in
-    let a = l .before .args in
-    rw (add-one, l .loop .inv .2) (paste-suc (a .d .now) (a .at) (a .s .now) (l .loop .j) 0 (omega arith) (search needs)))
+loop-again c = (
+  search needs,
+  search needs,
+  let l = c .before .before in
+      let a = l .before .args in
+      rw (add-one, l .loop .inv .2) (paste-suc (a .d .now) (a .at) (a .s .now) (l .loop .j) 0 (omega arith) (search needs)),
+)
+
 same-length : tie.Need-same-length Inv-loop μ-loop
 same-length c = search needs
+
 returns : tie.Need-returns Inv-loop μ-loop
 returns c = let l = c .before in
     let a = l .before .args in

@@ -27,7 +27,7 @@ cast-result : tie.Need-cast-result
 cast-result c = search needs
 
 returns : tie.Need-returns
-returns c = 
+returns c =
     let p = c .before .before .before .before .args .payload .now in
     let e : take (length p - 5) (drop 5 p) ≡ drop 5 p = take-all (length p - 5) (drop 5 p) (omega (arith, length-drop 5 p)) in
     (ap length e, rw e at (c .copy-in .ensures))
