@@ -9,7 +9,7 @@ use borrow.Author.Tests.{le-ltb}
 use Rattle.reading.specs.Kinds.{Kind}
 use Rattle.reading.specs.Kinds as k
 use Rattle.reading.specs.Grammar.{Piece, Reading, TheReading}
-use Rattle.reading.specs.Counts.{left, leftFrom, count, countSince}
+use Rattle.reading.specs.Counts.{left, leftFrom, count, countSince, soundBodies, soundFrames}
 use Rattle.reading.proofs.Reader.{pieces, piecesOf}
 use Rattle.reading.proofs.Once.{the-reading}
 use Rattle.link_receive.specs.declared.Receiver.{Receiver}
@@ -40,7 +40,12 @@ module _ (check : List ℕ → ℕ) where
         within = omega arith;
         sized = length-replicate {A = ℕ} limit 0;
         stands = refl;
-        tallied = λ j. tallyOf-zeros j ∙ omega arith }
+        tallied = λ j. tallyOf-zeros j ∙ omega arith;
+      }
+
+  pub fresh-frames : soundFrames check (fresh-after .pieces) ≡ []
+  unfolding pieces soundBodies fresh-after
+  fresh-frames = refl
 
   -- a reset leaves the receiver where it stands, with its tallies at 0 from there on
   pub reset-since : (g h : List ℕ) (r : Receiver) → Since check g h r → Since check (g ++ h) [] (resetOf r .next)
@@ -55,4 +60,5 @@ module _ (check : List ℕ → ℕ) where
         within = a .within;
         sized = a .sized;
         stands = a .stands;
-        tallied = λ j. tallyOf-zeros j ∙ omega arith })
+        tallied = λ j. tallyOf-zeros j ∙ omega arith;
+      })

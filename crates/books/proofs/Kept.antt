@@ -31,7 +31,8 @@ module _ (check : List ℕ → ℕ) where
   absorbed r s x e =
       record {
         exactly = e;
-        since = λ g h a. rw (e, extend-drained r s (a .within)) (since-more check g h r a s) }
+        since = λ g h a. rw (e, extend-drained r s (a .within)) (since-more check g h r a s);
+      }
 
   module _ (r : Receiver) (s : List ℕ) (f : Fed) (e : f ≡ feedOf check r s) (g h : List ℕ) (a : Since check g h r) where
     next-is : f .next ≡ drainOf check r (take (f .taken) s)
@@ -45,7 +46,8 @@ module _ (check : List ℕ → ℕ) where
         let b : Since check g (h ++ take (f .taken) s) (f .next) = rw next-is (since-more check g h r a (take (f .taken) s)) in
         record {
           after = b;
-          adds = frames-more check g h r a (take (f .taken) s) (b .pieces) (b .reading .is) ∙ ap (λ l. soundFrames check (a .pieces) ++ l) (sym handed-is) }
+          adds = frames-more check g h r a (take (f .taken) s) (b .pieces) (b .reading .is) ∙ ap (λ l. soundFrames check (a .pieces) ++ l) (sym handed-is);
+        }
 
   pub gave : (r : Receiver) (s : List ℕ) (f : Fed) → f ≡ feedOf check r s → Gave check r s f
   gave r s f e = record { exactly = e; on = on r s f e }

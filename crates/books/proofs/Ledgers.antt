@@ -48,4 +48,5 @@ module _ (check : List ℕ → ℕ) (h : List ℕ) (r : Receiver) (a : After che
         pieces = a .pieces;
         reading = a .reading;
         counted = rw (tally-is k.openings, tally-is k.frames, tally-is k.runts, tally-is k.checksums, tally-is k.giants, tally-is k.escaped, tally-is k.broken, tally-is k.noise, open-is);
-        balanced = rw (tally-is k.openings, tally-is k.frames, tally-is k.runts, tally-is k.checksums, tally-is k.giants, tally-is k.escaped, tally-is k.broken, open-is) (balance limit check h (a .pieces) (a .reading .is)) }
+        balanced = rw (tally-is k.openings, tally-is k.frames, tally-is k.runts, tally-is k.checksums, tally-is k.giants, tally-is k.escaped, tally-is k.broken, open-is) (balance limit check h (a .pieces) (a .reading .is));
+      }

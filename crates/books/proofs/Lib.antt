@@ -5,3 +5,5 @@ pub mod Prefix
 pub mod Ledgers
 pub mod Kept
 pub mod ReadBack
+pub mod Wrote
+pub mod Demands

@@ -108,6 +108,7 @@ module _ (check : List ℕ → ℕ) where
       feed-on x (xs ++ (b ∷ [])) r n (silent-answer (stepOf check r x .answer) (q .body) (t .answers) (p .0))
       ∙ feed-quiet xs b q (n + 1) (t .within) (p .1)
       ∙ ap (feedFrom check (drainOf check q xs) (b ∷ [])) (omega arith)
+
   module _ (f : Frame) (fits : length (f .payload) + 6 ≤ limit) (r : Receiver) (h : r .len ≤ limit) (l : length (r .body) ≡ limit) (line : Line) (outside : restAt r ≡ out line) where
     abbrev bytes : List ℕ
     bytes = encodedOf check f
@@ -185,4 +186,5 @@ module _ (check : List ℕ → ℕ) where
           next = ap (λ (y : Fed). y .next) fed-as ∙ sym drained;
           stands = state-of (drainOf check r bytes) (out idle) (w .stands ∙ rw outside (ap (λ (y : Beat). y .to) (goes-encodedOf limit check f fits line)));
           empty = ap (λ (y : Receiver). y .len) drained ∙ x-empty;
-          tallies = w .raises ∙ rw whole-run }
+          tallies = w .raises ∙ rw whole-run;
+        }

@@ -89,7 +89,8 @@ module _ (check : List ℕ → ℕ) where
         sized = ih .sized;
         stands = ih .stands ∙ rw (s .stands);
         raises = ih .raises ∙ rw (s .stands, s .raises) (sym (raisedBy-append (y .events) (run limit check bs (y .to)) (r .tallies)));
-        hands = rw (ih .hands, s .hands, s .stands) (sym (ap (map frameOf) (bodies-append (y .events) (run limit check bs (y .to))) ∙ map-append (bodies (y .events)) (bodies (run limit check bs (y .to))))) }
+        hands = rw (ih .hands, s .hands, s .stands) (sym (ap (map frameOf) (bodies-append (y .events) (run limit check bs (y .to))) ∙ map-append (bodies (y .events)) (bodies (run limit check bs (y .to)))));
+      }
 
   module _ (g h : List ℕ) (r : Receiver) (a : Since check g h r) where
     -- the pieces of the bytes and a block more
@@ -112,9 +113,10 @@ module _ (check : List ℕ → ℕ) where
           sized = u .sized;
           stands = u .stands ∙ rw (a .stands) (sym (left-more limit check (g ++ h) s (a .pieces) (whole s) (a .reading .is) (whole-read s)));
           tallied = λ j.
-            ap (tallyOf j) (u .raises)
-            ∙ tallyOf-raisedBy (run limit check s (restAt r)) (r .tallies) j (countSince check j (a .before) (a .pieces)) (a .tallied j)
-            ∙ rw (a .stands) (ap (λ (n : ℕ). n % 2 ^ 64) (grown j)) }
+              ap (tallyOf j) (u .raises)
+              ∙ tallyOf-raisedBy (run limit check s (restAt r)) (r .tallies) j (countSince check j (a .before) (a .pieces)) (a .tallied j)
+              ∙ rw (a .stands) (ap (λ (n : ℕ). n % 2 ^ 64) (grown j));
+        }
       where
         grown : (j : Kind) → countSince check j (a .before) (a .pieces) + tally j (run limit check s (left (a .pieces))) ≡ countSince check j (a .before) (whole s)
         grown j = omega (arith, count-more limit check j (g ++ h) s (a .pieces) (whole s) (a .reading .is) (whole-read s), count-grows limit check j g h (a .before) (a .pieces) (a .reading-before .is) (a .reading .is))
