@@ -1,5 +1,6 @@
 -- The escapes of the wire, and what the byte after 7e means. The receiver and the grammar cite both. Assumes nothing.
-use Prim.Native.Nat.{ℕ, suc}
+use mathlib.Core.Path.{_≡_}
+use Prim.Native.Nat.{ℕ, suc, _+_, _<_}
 use mathlib.Core.Bool.{Bool, true, false, cond}
 use mathlib.Core.List.{List, [], _∷_, _++_}
 use lib.ListN.{length, getD}
@@ -29,6 +30,23 @@ escapedByte b = cond (ltb (codeOf b) 7) (0x7e ∷ codeOf b ∷ []) (b ∷ [])
 unfoldable pub escaped : List ℕ → List ℕ
 escaped [] = []
 escaped (b ∷ bs) = escapedByte b ++ escaped bs
+
+-- the list that an escaped list stands for: each 7e is taken with the byte after it
+unfoldable pub unescaped : List ℕ → List ℕ
+unescaped [] = []
+unescaped (b ∷ []) = b ∷ []
+unescaped (b ∷ code ∷ bs) = cond (eqb b 0x7e) (unescapedOf code ∷ unescaped bs) (b ∷ unescaped (code ∷ bs))
+
+-- a list that holds a 7e only as the first half of a pair, whose second half is a code
+pub data Paired : List ℕ → Type 0 where
+  none : Paired []
+  raw : {b : ℕ} {bs : List ℕ} → (b ≡ 0x7e → ⊥) → Paired bs → Paired (b ∷ bs)
+  pair : {code : ℕ} {bs : List ℕ} → code < 7 → Paired bs → Paired (0x7e ∷ code ∷ bs)
+
+-- how many of a list's bytes are among the seven
+unfoldable pub sevens : List ℕ → ℕ
+sevens [] = 0
+sevens (b ∷ bs) = cond (ltb (codeOf b) 7) 1 0 + sevens bs
 
 -- what the byte after 7e means: data for 00 to 06, the opener 07, the closer 08, or neither
 pub data Meaning : Type 0 where

@@ -1,3 +1,5 @@
 pub mod Table
 pub mod Bits
+pub mod Lay
+pub mod Bytes
 pub mod Linear

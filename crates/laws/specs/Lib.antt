@@ -1,2 +1,3 @@
 pub mod Bytes
+pub mod Handed
 pub mod Wrap

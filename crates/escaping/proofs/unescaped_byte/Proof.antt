@@ -3,7 +3,7 @@ use mathlib.Core.Path.{_≡_, sym}
 use Prim.Native.Nat.{ℕ, _<_}
 use native.Mathlib.Omega.{arith}
 use Rattle.escaping.specs.Escapes.{meaning}
-use Rattle.escaping.specs.Handed.{unescapeHanded, refused}
+use Rattle.escaping.specs.Handed.{unescapeHanded}
 use Rattle.escaping.proofs.Laws.{unescapeHanded-above}
 use Rattle.escaping.proofs.unescaped_byte.Statement.{statement}
 use Rattle.escaping.proofs.unescaped_byte.Tie as tie

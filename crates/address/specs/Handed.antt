@@ -1,0 +1,38 @@
+-- What the functions of this crate hand back, in 01's numbers and values. Assumes nothing.
+use Prim.Native.Nat.{ℕ}
+use mathlib.Core.Bool.{cond}
+use mathlib.Core.List.{List, [], _∷_}
+use lib.Dec.{ltb}
+use Rattle.laws.specs.Bytes.{be16}
+use Rattle.laws.specs.Handed.{Handed, refused, value}
+use Rattle.address.specs.Address.{idLimit, gatewayOf, numberOf}
+use Rattle.address.specs.declared.Address.{Address}
+use Rattle.address.specs.declared.Made.{Made}
+use Rattle.address.specs.declared.Made.the-variants.{ID, Invalid as InvalidID}
+use Rattle.address.specs.declared.Numbered.{Numbered}
+use Rattle.address.specs.declared.Numbered.the-variants.{Number, Invalid as InvalidNumber}
+use Rattle.address.specs.declared.Spelled.{Spelled}
+use Rattle.address.specs.declared.Spelled.the-variants.{Bytes, Invalid as InvalidBytes}
+
+abbrev pub handedID : Made → Handed ℕ
+handedID (ID g) = value (g .0)
+handedID InvalidID = refused 13
+
+abbrev pub handedNumber : Numbered → Handed ℕ
+handedNumber (Number n) = value n
+handedNumber InvalidNumber = refused 13
+
+abbrev pub handedBytes : Spelled → Handed (List ℕ)
+handedBytes (Bytes hi lo) = value (hi ∷ lo ∷ [])
+handedBytes InvalidBytes = refused 13
+
+-- 01, "Numbers handed back", 13: gateway ID above 7fff, made or given
+unfoldable pub idHanded : ℕ → Handed ℕ
+idHanded n = cond (ltb idLimit n) (refused 13) (value n)
+
+unfoldable pub numberHanded : Address → Handed ℕ
+numberHanded a = cond (ltb idLimit (gatewayOf a)) (refused 13) (value (numberOf a))
+
+-- 01, "On the wire": address (2, big-endian)
+unfoldable pub bytesHanded : Address → Handed (List ℕ)
+bytesHanded a = cond (ltb idLimit (gatewayOf a)) (refused 13) (value (be16 (numberOf a)))
