@@ -3,3 +3,5 @@ pub mod Places
 pub mod Written
 pub mod Commands
 pub mod Told
+pub mod Fit
+pub mod Saying
