@@ -7,7 +7,7 @@ use lib.ListN.{length, getD, drop, drop-of-length-le}
 use lib.Seq.{drop-cons}
 use borrow.Author.Tests.{lt-ltb, le-ltb}
 use Rattle.address.specs.declared.Address.{Address}
-use Rattle.link_receive.specs.declared.«Type».{«Type»}
+use Rattle.link.specs.declared.«Type».{«Type»}
 use Rattle.link_receive.specs.declared.State.{State}
 use Rattle.link_receive.specs.declared.Tallies.{Tallies}
 use Rattle.link_receive.specs.declared.Answer.the-variants.{Nothing, Frame, Refused}

@@ -13,16 +13,17 @@ use Rattle.laws.specs.Bytes.{be16At}
 use Rattle.address.specs.Address.{numberOf, addressOf}
 use Rattle.address.specs.declared.Address.{Address}
 use Rattle.address.specs.declared.Address.the-variants.{From, To}
+use Rattle.address.proofs.Laws.{numberOf-addressOf}
 use Rattle.link.specs.Wire.{frameOf}
-use Rattle.link_receive.specs.declared.«Type».{«Type»}
+use Rattle.link.specs.declared.«Type».{«Type»}
 use Rattle.link_receive.specs.declared.Tally.the-variants as tally
 use Rattle.link_receive.specs.declared.Parsed.{Parsed}
 use Rattle.link_receive.specs.declared.Parsed.the-variants.{Sound, Dropped}
 use Rattle.link_receive.specs.declared.Answer.{Answer}
 use Rattle.link_receive.specs.declared.Answer.the-variants.{Nothing, Frame, Refused}
 use Rattle.link_receive.specs.Frames.{handed, payloadOf, handedOut}
-use Rattle.link_receive.specs.Step.{checks, parsedOf}
-use Rattle.link_receive.proofs.Steps.{sound-units}
+use Rattle.link_receive.specs.Step.{parsedOf}
+use Rattle.link_receive.proofs.Steps.{parsedOf-sound, sound-units}
 
 -- `handed` tells any two answers apart
 pub handed-apart : (a b : Answer) → handed a ≡ handed b → a ≡ b
@@ -41,15 +42,6 @@ handed-apart Refused Nothing e = cc
 handed-apart Refused (Frame address t n) e = cc
 handed-apart Refused Refused e = refl
 
--- the address that 16 bits say has these bits
-pub numberOf-addressOf : (n : ℕ) → numberOf (addressOf n) ≡ n
-unfolding addressOf
-numberOf-addressOf n = go (ltb n 0x8000) refl
-  where
-    go : (x : Bool) → ltb n 0x8000 ≡ x → numberOf (cond x (To (record { 0 = n })) (From (record { 0 = n - 0x8000 }))) ≡ n
-    go true e = refl
-    go false e = omega (arith, ltb-false n 0x8000 e)
-
 drop-take : (m k : ℕ) (l : List ℕ) → m ≤ length l → drop m (take (m + k) l) ≡ take k (drop m l)
 drop-take m k l h = rw (take-add m k l) (drop-at (take m l) (take k (drop m l)) m (length-take-le m l h))
 
@@ -63,14 +55,7 @@ payloadOf-body body len h l =
 module _ (check : List ℕ → ℕ) where
   parsedOf-says : (s : List ℕ) (address : Address) (t : «Type») → parsedOf check s ≡ Sound address t → Sound (addressOf (be16At s 0)) (record { 0 = be16At s 2 }) ≡ Sound address t
   unfolding parsedOf
-  parsedOf-says s address t = go (ltb (length s) 6) (checks check s)
-    where
-      go :
-          (x y : Bool) → cond x (Dropped tally.Runts) (cond y (Sound (addressOf (be16At s 0)) (record { 0 = be16At s 2 })) (Dropped tally.Checksums)) ≡ Sound address t →
-          Sound (addressOf (be16At s 0)) (record { 0 = be16At s 2 }) ≡ Sound address t
-      go true y e = cc
-      go false true e = e
-      go false false e = cc
+  parsedOf-says s address t e = rw (parsedOf-sound check s address t e) at e
 
   -- a sound body hands out the frame that its bytes say
   pub handedOut-sound :

@@ -6,7 +6,8 @@ use native.Mathlib.Omega.{arith}
 use lib.Dec.{eqb, ltb}
 use borrow.Author.Tests.{lt-ltb, le-ltb, ne-eqb, ltb-true}
 use Rattle.escaping.specs.Escapes.{Meaning, datum, opener, closer, neither, meaning, unescapedOf}
-use Rattle.escaping.specs.Handed.{handed, refused, value, unescapeMeant, unescapeHanded}
+use Rattle.laws.specs.Handed.{refused, value}
+use Rattle.escaping.specs.Handed.{handedByte, unescapeMeant, unescapeHanded}
 use Rattle.escaping.specs.declared.Unescaped.{Unescaped}
 use Rattle.escaping.specs.declared.Unescaped.the-variants.{Byte, Invalid}
 use Rattle.link_receive.specs.declared.State.{State}
@@ -57,10 +58,10 @@ meaning-closer b h = rw (ne-eqb b 8 h) (go (ltb b 7) (eqb b 7))
     go false false e = let z : _≡_ {A = ℕ} 0 1 = cc in omega arith
 
 -- what `unescaped_byte` says of the byte after 7e inside a frame: a unit, or the escaped overlong, or no data
-module _ (u : Unescaped) (len b : ℕ) (e : handed u ≡ unescapeHanded b) where
+module _ (u : Unescaped) (len b : ℕ) (e : handedByte u ≡ unescapeHanded b) where
   means : (d : ℕ) → u ≡ Byte d → (meaning b ≡ datum) × (d ≡ unescapedOf b)
   unfolding unescapeHanded
-  means d f = byte-means (meaning b) b d (sym (ap handed f) ∙ e)
+  means d f = byte-means (meaning b) b d (sym (ap handedByte f) ∙ e)
 
   pub escape-push : (d : ℕ) → u ≡ Byte d → len < limit → Push d ≡ turnOf FrameEscape len b
   unfolding turnOf
@@ -72,7 +73,7 @@ module _ (u : Unescaped) (len b : ℕ) (e : handed u ≡ unescapeHanded b) where
 
   pub escape-break : u ≡ Invalid → (b ≡ 0x08 → ⊥) → Break ≡ turnOf FrameEscape len b
   unfolding turnOf unescapeHanded
-  escape-break f n = invalid-means (meaning b) len b (meaning-closer b n) (sym (ap handed f) ∙ e)
+  escape-break f n = invalid-means (meaning b) len b (meaning-closer b n) (sym (ap handedByte f) ∙ e)
 
 -- a unit is asked for only where it fits
 abbrev Fitting : ℕ → Move → Type 0
@@ -95,8 +96,8 @@ unit-fitting len d m p = go (ltb len limit) refl
 
 turnOf-fitting : (s : State) (len b : ℕ) → Fitting len (turnOf s len b)
 unfolding turnOf
-turnOf-fitting Idle len b = cond-fitting len (eqb b 0x7e) (To StartOfFrame) _ tt (cond-fitting len (eqb b 0x00) (To Idle) _ tt (cond-fitting len (eqb b 0xff) (To Idle) (Count tally.Noise Noise) tt tt))
-turnOf-fitting Noise len b = cond-fitting len (eqb b 0x7e) (To StartOfFrame) _ tt (cond-fitting len (eqb b 0x00) (To Idle) _ tt (cond-fitting len (eqb b 0xff) (To Idle) (To Noise) tt tt))
+turnOf-fitting Idle len b = cond-fitting len (eqb b 0x7e) _ _ tt (cond-fitting len (eqb b 0x00) _ _ tt (cond-fitting len (eqb b 0xff) _ (Count tally.Noise Noise) tt tt))
+turnOf-fitting Noise len b = cond-fitting len (eqb b 0x7e) _ _ tt (cond-fitting len (eqb b 0x00) _ _ tt (cond-fitting len (eqb b 0xff) _ (To Noise) tt tt))
 turnOf-fitting StartOfFrame len b = go (meaning b)
   where
     go : (m : Meaning) → Fitting len (pairOf m)
@@ -104,7 +105,7 @@ turnOf-fitting StartOfFrame len b = go (meaning b)
     go opener = tt
     go closer = tt
     go neither = tt
-turnOf-fitting Frame len b = cond-fitting len (eqb b 0x7e) (To FrameEscape) _ tt (unit-fitting len b (Count tally.Giants Giant) tt)
+turnOf-fitting Frame len b = cond-fitting len (eqb b 0x7e) _ _ tt (unit-fitting len b (Count tally.Giants Giant) tt)
 turnOf-fitting FrameEscape len b = go (meaning b)
   where
     go : (m : Meaning) → Fitting len (escapeOf m len b)
@@ -112,7 +113,7 @@ turnOf-fitting FrameEscape len b = go (meaning b)
     go opener = tt
     go closer = tt
     go neither = tt
-turnOf-fitting Giant len b = cond-fitting len (eqb b 0x7e) (To GiantEscape) (To Giant) tt tt
+turnOf-fitting Giant len b = cond-fitting len (eqb b 0x7e) _ (To Giant) tt tt
 turnOf-fitting GiantEscape len b = go (meaning b)
   where
     go : (m : Meaning) → Fitting len (tailOf m)

@@ -2,22 +2,22 @@
 use Prim.Native.Nat.{ℕ}
 use mathlib.Core.List.{List, [], _∷_}
 use lib.ListN.{take, drop}
+use Rattle.laws.specs.Handed.{Handed, refused, value}
 use Rattle.address.specs.Address.{numberOf}
 use Rattle.address.specs.declared.Address.{Address}
 use Rattle.link.specs.Wire as wire
 use Rattle.link_receive.specs.declared.Answer.{Answer}
 use Rattle.link_receive.specs.declared.Answer.the-variants.{Nothing, Frame, Refused}
 
--- a number of 01's table, nothing, or a frame: its address, the number of its type, the length of its payload
-pub data Handed : Type 0 where
-  refused : ℕ → Handed
-  nothing : Handed
-  frame : Address → ℕ → ℕ → Handed
+-- nothing, or a frame: its address, the number of its type, the length of its payload
+pub data Given : Type 0 where
+  nothing : Given
+  frame : Address → ℕ → ℕ → Given
 
 -- 01, "Numbers handed back", 12: state with a length over its limit
-abbrev pub handed : Answer → Handed
-handed Nothing = nothing
-handed (Frame address t n) = frame address (t .0) n
+abbrev pub handed : Answer → Handed Given
+handed Nothing = value nothing
+handed (Frame address t n) = value (frame address (t .0) n)
 handed Refused = refused 12
 
 -- the payload in a body: what follows address and type

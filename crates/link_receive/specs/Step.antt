@@ -2,13 +2,14 @@
 use Prim.Native.Nat.{ℕ, _+_, _-_}
 use mathlib.Core.Bool.{Bool, true, false, cond}
 use mathlib.Core.List.{List}
-use lib.ListN.{length, getD, set, take, replicate}
+use lib.ListN.{set, take, replicate}
 use lib.Dec.{eqb, ltb}
-use Rattle.laws.specs.Bytes.{of16, be16At}
+use Rattle.laws.specs.Bytes.{be16At}
 use Rattle.escaping.specs.Escapes.{Meaning, datum, opener, closer, neither, meaning, unescapedOf}
 use Rattle.address.specs.Address.{addressOf}
 use Rattle.reading.specs.Kinds.{Kind}
 use Rattle.reading.specs.Kinds as k
+use Rattle.reading.specs.Counts.{Verdict, runt, checksum, sound, verdict}
 use Rattle.link_receive.specs.declared.State.{State}
 use Rattle.link_receive.specs.declared.State.the-variants.{Idle, Noise, StartOfFrame, Frame, FrameEscape, Giant, GiantEscape}
 use Rattle.link_receive.specs.declared.Tally.the-variants as tally
@@ -30,6 +31,16 @@ limit = 256
 -- 01, "The reading of a stream": a fresh receiver is Idle
 abbrev pub freshOf : Receiver
 freshOf = record { state = Idle; body = replicate limit 0; len = 0; tallies = zeros }
+
+-- 01, "Marked cases": open is 1 while a frame is open, a lone last 7e in it included
+abbrev pub openOf : State → ℕ
+openOf Idle = 0
+openOf Noise = 0
+openOf StartOfFrame = 0
+openOf Frame = 1
+openOf FrameEscape = 1
+openOf Giant = 0
+openOf GiantEscape = 0
 
 -- outside an open frame and the overlong tail, a byte that is no 7e: 00 and ff lead to Idle. Another byte leads to Noise, one noise if it came in Idle
 abbrev pub outsideOf : Move → ℕ → Move
@@ -102,17 +113,16 @@ refusedOf r = record { next = r; answer = answer.Refused }
 unfoldable pub resetOf : Receiver → Stepped
 resetOf r = cond (ltb limit (r .len)) (refusedOf r) (quiet (record { state = r .state; body = r .body; len = r .len; tallies = zeros }))
 
-module _ (check : List ℕ → ℕ) where
-  -- the check of all but the last two bytes is what these two say (little-endian)
-  abbrev pub checks : List ℕ → Bool
-  checks s = eqb (check (take (length s - 2) s)) (of16 (getD s (length s - 1) 0) (getD s (length s - 2) 0))
+-- a runt and a checksum are counted and dropped; a sound body says its address and its type
+abbrev pub judgedOf : Verdict → List ℕ → Parsed
+judgedOf runt s = Dropped tally.Runts
+judgedOf checksum s = Dropped tally.Checksums
+judgedOf sound s = Sound (addressOf (be16At s 0)) (record { 0 = be16At s 2 })
 
-  -- closed by 7e 08 ..: runt if fewer than 6, else checksum if the check differs, else sound
+module _ (check : List ℕ → ℕ) where
+  -- what a closed body comes to, by 01's verdict on it
   unfoldable pub parsedOf : List ℕ → Parsed
-  parsedOf s =
-      cond (ltb (length s) 6) (Dropped tally.Runts)
-      (cond (checks s) (Sound (addressOf (be16At s 0)) (record { 0 = be16At s 2 }))
-      (Dropped tally.Checksums))
+  parsedOf s = judgedOf (verdict check s) s
 
   abbrev pub movedOf : Receiver → Move → Stepped
   movedOf r (To s) = quiet (toOf r s)

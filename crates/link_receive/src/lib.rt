@@ -4,18 +4,14 @@ ghost use Prim.Native.Nat.{_<_, _≤_};
 ghost use lib.ListN.{take};
 ghost use Rattle.laws.specs.Bytes.{of16};
 ghost use Rattle.crc.specs.Crc.{crcOf};
-ghost use Rattle.address.specs.Address.{addressOf};
 ghost use Rattle.link_receive.specs.Tally.{kindOf, raise};
 ghost use Rattle.link_receive.specs.Frames.{payloadOf};
-ghost use Rattle.link_receive.specs.Step.{limit, turnOf, toOf, pushedOf, countedOf, parsedOf, closedOf, stepOf, freshOf, resetOf};
+ghost use Rattle.link_receive.specs.Step.{limit, openOf, turnOf, toOf, pushedOf, countedOf, parsedOf, closedOf, stepOf, freshOf, resetOf};
 ghost use Rattle.link_receive.specs.Feed.{feedOf};
 ghost use Rattle.link_receive.specs.Drain.{extendOf};
 use address::Address;
-use address::GatewayID;
 use escaping::Unescaped;
-
-// A frame's type.
-pub struct Type(pub u16);
+use link::Type;
 
 // Where the receiver stands in the stream.
 pub enum State {
@@ -26,6 +22,21 @@ pub enum State {
     FrameEscape,
     Giant,
     GiantEscape,
+}
+
+// 1 while a frame is open, a lone last 7e in it included, else 0.
+pub fn open_frames(state: State) -> u64
+    ensures { λ r. ⌜ r ≡ openOf state ⌝ }
+{
+    match state {
+        State::Idle => 0,
+        State::Noise => 0,
+        State::StartOfFrame => 0,
+        State::Frame => 1,
+        State::FrameEscape => 1,
+        State::Giant => 0,
+        State::GiantEscape => 0,
+    }
 }
 
 // One of the eight tallies.
@@ -190,17 +201,6 @@ fn number(hi: u8, lo: u8) -> u16
     (hi as u16) * 256 + (lo as u16)
 }
 
-// The address that 16 bits say.
-fn address_of(n: u16) -> Address
-    ensures { λ r. ⌜ r ≡ addressOf n ⌝ }
-{
-    if n < 0x8000 {
-        Address::To(GatewayID(n))
-    } else {
-        Address::From(GatewayID(n - 0x8000))
-    }
-}
-
 // The verdict on a closed body.
 fn parse_frame(body: &[u8]) -> Parsed
     ensures { λ r. ⌜ r ≡ parsedOf crcOf (now (body .entry)) ⌝ }
@@ -213,7 +213,7 @@ fn parse_frame(body: &[u8]) -> Parsed
     let crc = crc::crc(&body[..m]);
     let expected = number(body[n - 1], body[m]);
     if crc == expected {
-        let address = address_of(number(body[0], body[1]));
+        let address = Address::from_u16(number(body[0], body[1]));
         let kind = number(body[2], body[3]);
         Parsed::Sound {
             address: address,
