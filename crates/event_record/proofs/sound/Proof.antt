@@ -1,0 +1,87 @@
+-- `event_record::sound` asks the parts of a sound record one after the other. Assumes nothing.
+use mathlib.Core.Path.{_≡_, sym, ap, _∙_}
+use Prim.Native.Nat.{_-_}
+use native.Mathlib.Omega.{arith}
+use mathlib.Core.List.{List}
+use lib.ListN.{length, take, drop, length-drop}
+use lib.Seq.{take-all}
+use Rattle.event_record.specs.Record.{soundBody, written}
+use Rattle.event_record.proofs.Soundness.{sound-body, not-sound}
+use borrow.Author.Needs.{needs}
+use Rattle.event_record.proofs.sound.Statement.{statement}
+use Rattle.event_record.proofs.sound.Tie as tie
+
+returns : tie.Need-returns
+returns c = sym (not-sound _ _ (λ p. omega (arith, p .head)))
+
+shared-slice-read-pair : tie.Need-shared-slice-read-pair
+shared-slice-read-pair c = search needs
+
+shared-slice-read-pair-2 : tie.Need-shared-slice-read-pair-2
+shared-slice-read-pair-2 c = search needs
+
+pair-requires : tie.Need-pair-requires
+pair-requires c κs = search needs
+
+add-if2 : tie.Need-add-if2
+add-if2 c = omega (arith, c .pair .ensures, c .before .shared-slice-known3 .given 0, c .before .shared-slice-known3 .given 1)
+
+returns-2 : tie.Need-returns-2
+returns-2 c = sym (not-sound _ _ (λ p. c .if2 .taken (omega (arith, c .before .pair .ensures, p .whole))))
+
+shared-slice-read-if3 : tie.Need-shared-slice-read-if3
+shared-slice-read-if3 c = search needs
+
+returns-3 : tie.Need-returns-3
+returns-3 c = sym (not-sound _ _ (λ p. c .if3 .taken (p .version)))
+
+shared-slice-read-if4 : tie.Need-shared-slice-read-if4
+shared-slice-read-if4 c = search needs
+
+returns-4 : tie.Need-returns-4
+returns-4 c = sym (not-sound _ _ (λ p. omega (arith, p .gateway)))
+
+shared-slice-read-sound-body : tie.Need-shared-slice-read-sound-body
+shared-slice-read-sound-body c = search needs
+
+sub-sound-body : tie.Need-sub-sound-body
+sub-sound-body c = search needs
+
+part-sound-body-start : tie.Need-part-sound-body-start
+part-sound-body-start c = search needs
+
+part-sound-body-end : tie.Need-part-sound-body-end
+part-sound-body-end c = search needs
+
+sound-body-requires : tie.Need-sound-body-requires
+sound-body-requires c κs = search needs
+
+returns-5 : tie.Need-returns-5
+returns-5 c = let r = c .before .before .before .before .before .before .before .before .before .before .before .before .before .args .bytes .now in
+    let w = c .before .before .before .before .before .before .before in
+    c .sound-body .ensures
+    ∙ rw (take-all (length r - 6) (drop 6 r) (simp length-drop (omega arith)))
+    (sym
+    (sound-body written r (omega (arith, w .if2 .left, w .before .pair .ensures)) (c .before .before .before .before .before .if3 .left) (omega arith)
+    (omega (arith, c .before .before .before .if4 .left, c .before .before .shared-slice-known6 .given 5))))
+
+pub sound-spec : {M : Type 1} → statement M
+sound-spec =
+    tie.close
+    (tie.spec
+    returns
+    shared-slice-read-pair
+    shared-slice-read-pair-2
+    pair-requires
+    add-if2
+    returns-2
+    shared-slice-read-if3
+    returns-3
+    shared-slice-read-if4
+    returns-4
+    shared-slice-read-sound-body
+    sub-sound-body
+    part-sound-body-start
+    part-sound-body-end
+    sound-body-requires
+    returns-5)

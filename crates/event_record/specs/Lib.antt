@@ -1,0 +1,3 @@
+pub mod Record
+pub mod Event
+pub mod Handed

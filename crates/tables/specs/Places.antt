@@ -1,0 +1,74 @@
+-- A table in 01's words: a list of places, each free or holding a key and a value. Assumes nothing.
+use Prim.Native.Nat.{ℕ, zero, suc}
+use mathlib.Core.Bool.{Bool, true, false, cond, not, _||_}
+use mathlib.Core.List.{List, [], _∷_}
+use mathlib.Core.Option.{Option, none, some}
+use lib.ListN.{length, getD, set}
+use lib.Dec.{eqb, ltb}
+
+-- 01, "Transport": tables; a place freed by a response is used again
+pub data Place (A : Type 0) : Type 0 where
+  free : Place A
+  held : ℕ → A → Place A
+
+module _ {A : Type 0} where
+  abbrev pub holds : ℕ → Place A → Bool
+  holds k free = false
+  holds k (held j v) = eqb j k
+
+  abbrev pub isFree : Place A → Bool
+  isFree free = true
+  isFree (held k v) = false
+
+  -- the first place that passes a test, or the number of places
+  unfoldable pub firstWith : (Place A → Bool) → List (Place A) → ℕ
+  firstWith test [] = 0
+  firstWith test (p ∷ ps) = cond (test p) 0 (suc (firstWith test ps))
+
+  -- 01, "The reading of a stream": of a key held twice the first place counts
+  abbrev pub holder : List (Place A) → ℕ → ℕ
+  holder ps k = firstWith (holds k) ps
+
+  abbrev pub isHeld : List (Place A) → ℕ → Bool
+  isHeld ps k = ltb (holder ps k) (length ps)
+
+  -- the first free place
+  abbrev pub vacancy : List (Place A) → ℕ
+  vacancy ps = firstWith isFree ps
+
+  -- 01, "Numbers handed back", 25 to 27: an entry finds no place if its key is new and every place is held
+  abbrev pub hasRoom : List (Place A) → ℕ → Bool
+  hasRoom ps k = isHeld ps k || ltb (vacancy ps) (length ps)
+
+  -- where an entry goes: the place of its key, else the first free one
+  abbrev pub seat : List (Place A) → ℕ → ℕ
+  seat ps k = cond (isHeld ps k) (holder ps k) (vacancy ps)
+
+  -- an entry stored under its key, replacing an older one there
+  abbrev pub stored : List (Place A) → ℕ → A → List (Place A)
+  stored ps k v = set ps (seat ps k) (held k v)
+
+  -- an entry taken out: its place is free
+  abbrev pub removed : List (Place A) → ℕ → List (Place A)
+  removed ps k = set ps (holder ps k) free
+
+  abbrev pub valueIn : Place A → Option A
+  valueIn free = none
+  valueIn (held k v) = some v
+
+  -- what is held under a key
+  abbrev pub valueAt : List (Place A) → ℕ → Option A
+  valueAt ps k = valueIn (getD ps (holder ps k) free)
+
+  -- what a key and a value say of a place
+  abbrev pub placeOf : ℕ → A → Place A
+  placeOf zero v = free
+  placeOf (suc k) v = held k v
+
+  -- what arrays mean: place i has the i-th key and, if held, the i-th value. What stands at a free place says nothing.
+  unfoldable pub placesFrom : (ℕ → A) → ℕ → List ℕ → List (Place A)
+  placesFrom values i [] = []
+  placesFrom values i (k ∷ ks) = placeOf k (values i) ∷ placesFrom values (suc i) ks
+
+  abbrev pub placesOf : List ℕ → (ℕ → A) → List (Place A)
+  placesOf keys values = placesFrom values 0 keys
