@@ -1,14 +1,13 @@
 -- A body of a frame, over any check: its length, its check's place, and the frame read back out of it. Assumes nothing.
-use mathlib.Core.Path.{_≡_, refl, sym, ap, _∙_}
-use mathlib.Core.List.{List, [], _∷_, _++_, append-assoc}
+use mathlib.Core.Path.{_≡_}
+use mathlib.Core.List.{List, [], _∷_, _++_}
 use mathlib.Core.Bool.{Bool, true, false, cond}
 use lib.Dec.{ltb}
-use Prim.Native.Nat.{ℕ, zero, suc, _+_, _-_, _*_, _/_, _%_, _^_, _≤_, _<_}
-use native.Mathlib.Nat.{div-add-mod'}
+use Prim.Native.Nat.{ℕ, _+_, _-_, _/_, _%_, _^_, _≤_, _<_}
 use native.Mathlib.Omega.{arith}
-use lib.ListN.{length, getD, take, drop, length-append, List·getD-append}
-use lib.Seq.{take-at, drop-at, take-append-seam, getD-append-add}
-use Rattle.laws.specs.Bytes.{Bytes, Check16, be16, le16, of16, be16At, laidOver}
+use lib.ListN.{length, getD, take, drop, length-append}
+use lib.Seq.{take-at, drop-at, getD-append-add}
+use Rattle.laws.specs.Bytes.{Bytes, Check16, be16, le16, of16, laidOver}
 use Rattle.laws.proofs.Bytes.{of16-be16, bytes-append, bytes-be16, bytes-le16}
 use Rattle.escaping.proofs.Lengths.{length-escaped-le}
 use Rattle.link.specs.Wire.{Frame, startOf, checkedOf, bodyOf, frameOf, encodedOf, bodyLimit, payloadLimit}
