@@ -55,6 +55,23 @@ pub ltb-numberOf : (a : Address) → gatewayOf a ≤ idLimit → ltb (numberOf a
 ltb-numberOf (From g) h = le-ltb (0x8000 + g .0) 0x8000 (omega arith)
 ltb-numberOf (To g) h = lt-ltb (g .0) 0x8000 (omega arith)
 
+-- what an answer tells of the ID: `encode` cites these
+pub number-accepted : (a : Address) (n : ℕ) → numberHanded a ≡ value n → (gatewayOf a ≤ idLimit) × (n ≡ numberOf a)
+unfolding numberHanded
+number-accepted a n = go (ltb idLimit (gatewayOf a)) refl
+  where
+    go : (t : Bool) → ltb idLimit (gatewayOf a) ≡ t → cond t (refused 13) (value (numberOf a)) ≡ value n → (gatewayOf a ≤ idLimit) × (n ≡ numberOf a)
+    go true p q = absurd (let z : _≡_ {A = ℕ} 0 1 = cc in omega arith)
+    go false p q = (ltb-false idLimit (gatewayOf a) p, cc)
+
+pub number-refused : (a : Address) → numberHanded a ≡ refused 13 → idLimit < gatewayOf a
+unfolding numberHanded
+number-refused a = go (ltb idLimit (gatewayOf a)) refl
+  where
+    go : (t : Bool) → ltb idLimit (gatewayOf a) ≡ t → cond t (refused 13) (value (numberOf a)) ≡ refused 13 → idLimit < gatewayOf a
+    go true p q = ltb-true idLimit (gatewayOf a) p
+    go false p q = absurd (let z : _≡_ {A = ℕ} 0 1 = cc in omega arith)
+
 -- the two bytes follow the number
 pub bytesHanded-value : (a : Address) (n : ℕ) → numberHanded a ≡ value n → bytesHanded a ≡ value (be16 n)
 unfolding numberHanded bytesHanded

@@ -4,7 +4,10 @@ use mathlib.Core.Path.{_≡_, refl, ap}
 use Prim.Native.Nat.{ℕ, _≤_, _<_}
 use mathlib.Core.List.{List}
 use lib.ListN.{length}
-use borrow.Author.Tests.{lt-ltb, le-ltb}
+use native.Mathlib.Omega.{arith}
+use lib.Dec.{ltb}
+use borrow.Author.Tests.{lt-ltb, le-ltb, ltb-true, ltb-false}
+use mathlib.Core.Bool.{Bool, true, false, cond}
 use Rattle.laws.specs.Bytes.{laidOver}
 use Rattle.laws.specs.Handed.{Handed, refused, value}
 use Rattle.escaping.specs.Escapes.{escaped}
@@ -52,3 +55,26 @@ module _ (input : List ℕ) (within : length input ≤ inputLimit) where
   pub escapeBytes-fits : (out : List ℕ) → length (escaped input) ≤ length out → escapeBytes input out ≡ laidOver (escaped input) out
   unfolding escapeBytes
   escapeBytes-fits out h = rw (le-ltb inputLimit (length input) within, le-ltb (length out) (length (escaped input)) h)
+
+  pub escapeBytes-narrow : (out : List ℕ) → length out < length (escaped input) → escapeBytes input out ≡ out
+  unfolding escapeBytes
+  escapeBytes-narrow out h = rw (le-ltb inputLimit (length input) within, lt-ltb (length out) (length (escaped input)) h)
+
+  -- what an answer tells of the room
+  pub escape-accepted : (room n : ℕ) → escapeHanded input room ≡ value n → (length (escaped input) ≤ room) × (n ≡ length (escaped input))
+  unfolding escapeHanded
+  escape-accepted room n e = go (ltb room (length (escaped input))) refl (rw (le-ltb inputLimit (length input) within) at e)
+    where
+      go : (t : Bool) → ltb room (length (escaped input)) ≡ t → cond t (refused 11) (value (length (escaped input))) ≡ value n
+          → (length (escaped input) ≤ room) × (n ≡ length (escaped input))
+      go true p q = absurd (let z : _≡_ {A = ℕ} 0 1 = cc in omega arith)
+      go false p q = (ltb-false room (length (escaped input)) p, cc)
+
+  pub escape-refused : (room n : ℕ) → escapeHanded input room ≡ refused n → (room < length (escaped input)) × (n ≡ 11)
+  unfolding escapeHanded
+  escape-refused room n e = go (ltb room (length (escaped input))) refl (rw (le-ltb inputLimit (length input) within) at e)
+    where
+      go : (t : Bool) → ltb room (length (escaped input)) ≡ t → cond t (refused 11) (value (length (escaped input))) ≡ refused n
+          → (room < length (escaped input)) × (n ≡ 11)
+      go true p q = (ltb-true room (length (escaped input)) p, cc)
+      go false p q = absurd (let z : _≡_ {A = ℕ} 0 1 = cc in omega arith)

@@ -4,8 +4,8 @@ use mathlib.Core.List.{List, [], _∷_, _++_, append-assoc}
 use Prim.Native.Nat.{ℕ, _+_, _≤_, _<_}
 use native.Mathlib.Numerals.{add-one}
 use native.Mathlib.Omega.{arith}
-use lib.ListN.{length, take, drop, set, length-append, length-drop}
-use lib.Seq.{paste, take-paste, drop-paste, drop-cons, set-append-seam, append-snoc, take-append-seam, drop-append-seam, drop-append-add, drop-drop, take-length}
+use lib.ListN.{length, take, drop, set, length-append, length-drop, take-append-drop}
+use lib.Seq.{paste, take-paste, drop-paste, drop-cons, set-append-seam, append-snoc, take-append-seam, drop-append-seam, drop-append-add, drop-drop, take-length, drop-append-le}
 use Rattle.laws.specs.Bytes.{laidOver}
 
 -- what is written fits, so the buffer keeps its length
@@ -19,6 +19,12 @@ laidOver-set xs out b h = rw (drop-cons out (length xs) 0 h, set-append-seam, le
 -- a piece laid over the part of the buffer behind what is written
 pub laidOver-append : (xs ys out : List ℕ) → xs ++ laidOver ys (drop (length xs) out) ≡ laidOver (xs ++ ys) out
 laidOver-append xs ys out = rw (drop-drop, length-append, append-assoc)
+
+-- a piece laid over the first n bytes of a buffer, with what stands behind those
+pub laidOver-take : (ys out : List ℕ) (n : ℕ) → length ys ≤ length (take n out) → laidOver ys (take n out) ++ drop n out ≡ laidOver ys out
+laidOver-take ys out n h =
+    append-assoc ys (drop (length ys) (take n out)) (drop n out)
+    ∙ ap (λ (l : List ℕ). ys ++ l) (sym (drop-append-le (length ys) (take n out) (drop n out) h) ∙ ap (drop (length ys)) (take-append-drop n out))
 
 -- a piece copied in behind what is written
 pub laidOver-paste : (xs ys out : List ℕ) → paste (laidOver xs out) (length xs) ys (length ys) ≡ laidOver (xs ++ ys) out

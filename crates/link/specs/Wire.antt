@@ -25,6 +25,18 @@ end = 0x7e ∷ 0x08 ∷ []
 abbrev pub checkedOf : Frame → List ℕ
 checkedOf f = be16 (f .address) ++ (be16 (f .kind) ++ f .payload)
 
+-- 01, "The reading of a stream": closed by 7e 08 with at most 256 data units
+abbrev pub bodyLimit : ℕ
+bodyLimit = 256
+
+-- the longest payload: a body less address (2), type (2) and check (2); 01, "Numbers handed back", 10: payload over 250
+abbrev pub payloadLimit : ℕ
+payloadLimit = bodyLimit - 6
+
+-- a start, the escaped body, the end
+abbrev pub wireOf : List ℕ → List ℕ → List ℕ
+wireOf start body = start ++ (escaped body ++ end)
+
 -- what a body of at least four bytes and a check says
 abbrev pub frameOf : List ℕ → Frame
 frameOf body = record { address = be16At body 0; kind = be16At body 2; payload = drop 4 (take (length body - 2) body) }
@@ -34,5 +46,6 @@ module _ (check : List ℕ → ℕ) where
   abbrev pub bodyOf : Frame → List ℕ
   bodyOf f = checkedOf f ++ le16 (check (checkedOf f))
 
+  -- the whole frame on the line
   unfoldable pub encodedOf : Frame → List ℕ
-  encodedOf f = startOf (f .address) ++ (escaped (bodyOf f) ++ end)
+  encodedOf f = wireOf (startOf (f .address)) (bodyOf f)

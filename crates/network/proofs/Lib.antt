@@ -1,2 +1,3 @@
 pub mod Split
 pub mod Walk
+pub mod Nodes

@@ -3,13 +3,13 @@
 use mathlib.Core.Path.{_≡_, refl, sym, _∙_, ap}
 use Prim.Native.Nat.{ℕ, suc, _+_, _≤_, _<_}
 use mathlib.Core.Bool.{Bool, true, false, cond}
-use mathlib.Core.List.{List, [], _∷_, _++_, append-assoc, append-nil, map}
+use mathlib.Core.List.{List, [], _∷_, _++_, append-assoc, append-nil, map-append}
 use mathlib.Core.Option.{Option, none, some}
 use lib.ListN.{length, length-append, length-map}
 use lib.Dec.{ltb}
 use Rattle.escaping.specs.Escapes.{Meaning, datum, opener, closer, neither, meaning, unescapedOf}
 use Rattle.reading.specs.Kinds.{Kind, openings, frames, runts, checksums, giants, escaped, broken, noise}
-use Rattle.reading.specs.Grammar.{Line, idle, noisy, Unit, raw, pair, Opener, Ending, closed, broken-by, giant-by, escaped-by, unfinished, unfinished-7e, Start, whole, half, TailEnd, at-closer, at-opener, runs-out, runs-out-7e, Piece, outside-byte, outside-pair, outside-7e, frame, tail, is7e, leadsTo, isNoise, Reading}
+use Rattle.reading.specs.Grammar.{Line, idle, noisy, Unit, raw, pair, Opening, Ending, closed, broken-by, giant-by, escaped-by, unfinished, unfinished-7e, Start, whole, half, TailEnd, at-closer, at-opener, runs-out, runs-out-7e, Piece, outside-byte, outside-pair, outside-7e, frame, tail, is7e, leadsTo, isNoise, Reading}
 use Rattle.reading.specs.Counts.{Verdict, runt, checksum, sound, verdict, Rest, out, out-7e, inside, inside-7e, over, over-7e, restOf, leftFrom, left, value, bodyIn}
 use Rattle.reading.proofs.Reader.{Hand, clear, clear-7e, in-frame, in-frame-7e, due, in-tail, in-tail-7e, Move, goes, gives, led, finish, step, pieces, piecesOf}
 use Rattle.reading.proofs.Unique.{unique}
@@ -101,10 +101,6 @@ module _ (limit : ℕ) (check : List ℕ → ℕ) where
   leftFrom-append r [] qs = refl
   leftFrom-append r (p ∷ ps) qs = leftFrom-append (restOf p) ps qs
 
-  bodyIn-append : (us vs : List Unit) → bodyIn (us ++ vs) ≡ bodyIn us ++ bodyIn vs
-  bodyIn-append [] vs = refl
-  bodyIn-append (u ∷ us) vs = ap (λ l. value u ∷ l) (bodyIn-append us vs)
-
   -- THE READER AND THE MACHINE GO TOGETHER
 
   -- where the machine rests while the reader has this in hand: the body, however it was written
@@ -164,18 +160,18 @@ module _ (limit : ℕ) (check : List ℕ → ℕ) where
   together-clear-7e b closer e = record { to-same = rw e; events-same = rw e; left-same = λ r. rw e }
   together-clear-7e b neither e = record { to-same = rw e; events-same = rw e; left-same = λ r. rw e }
 
-  together-frame : (o : Opener) (us : List Unit) (b : ℕ) (t u : Bool) → is7e b ≡ t → ltb (length us) limit ≡ u → Together (in-frame o us) b
+  together-frame : (o : Opening) (us : List Unit) (b : ℕ) (t u : Bool) → is7e b ≡ t → ltb (length us) limit ≡ u → Together (in-frame o us) b
   unfolding eventsIn leftFrom
   together-frame o us b true u e f = record { to-same = rw e; events-same = rw e; left-same = λ r. rw e }
   together-frame o us b false true e f =
-      record { to-same = rw (e, length-map us value, f) (rw bodyIn-append); events-same = rw (e, length-map us value, f); left-same = λ r. rw (e, f) }
+      record { to-same = rw (e, length-map us value, f) (rw (map-append value)); events-same = rw (e, length-map us value, f); left-same = λ r. rw (e, f) }
   together-frame o us b false false e f =
       record { to-same = rw (e, length-map us value, f); events-same = rw (e, length-map us value, f); left-same = λ r. rw (e, f) }
 
-  together-frame-7e : (o : Opener) (us : List Unit) (b : ℕ) (m : Meaning) (u : Bool) → meaning b ≡ m → ltb (length us) limit ≡ u → Together (in-frame-7e o us) b
+  together-frame-7e : (o : Opening) (us : List Unit) (b : ℕ) (m : Meaning) (u : Bool) → meaning b ≡ m → ltb (length us) limit ≡ u → Together (in-frame-7e o us) b
   unfolding eventsIn leftFrom
   together-frame-7e o us b datum true e f =
-      record { to-same = rw (e, length-map us value, f) (rw bodyIn-append); events-same = rw (e, length-map us value, f); left-same = λ r. rw (e, f) }
+      record { to-same = rw (e, length-map us value, f) (rw (map-append value)); events-same = rw (e, length-map us value, f); left-same = λ r. rw (e, f) }
   together-frame-7e o us b datum false e f =
       record { to-same = rw (e, length-map us value, f); events-same = rw (e, length-map us value, f); left-same = λ r. rw (e, f) }
   together-frame-7e o us b opener u e f = record { to-same = rw e; events-same = rw e; left-same = λ r. rw e }

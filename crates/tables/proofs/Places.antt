@@ -7,7 +7,7 @@ use mathlib.Core.Logic.{⊎-elim}
 use mathlib.Core.Option.{Option, none, some}
 use native.Mathlib.Omega.{arith}
 use lib.ListN.{length, getD, set, length-set, List·getD-eq-default}
-use lib.Seq.{getD-set-same, getD-set-other, ext-getD}
+use lib.Seq.{getD-set-same, getD-set-other, set-getD, ext-getD}
 use lib.Dec.{eqb, ltb}
 use borrow.Author.Tests.{eqb-true, eqb-false, eq-eqb, ne-eqb, lt-ltb, le-ltb, ltb-true, ltb-false}
 use Rattle.tables.specs.Keys.{firstOf, seatOf}
@@ -102,3 +102,40 @@ module _ {A : Type 0} where
       at j h false e =
           let n : j ≡ i → ⊥ = eqb-false j i e in
           getD-places after (set keys i x) j ∙ rw (getD-set-other keys i j x 0 n, getD-set-other (placesOf keys values) i j (placeOf x v) free n, getD-places values keys j) (placeOf-agree (getD keys j 0) (after j) (values j) (other j n))
+
+  -- a place's key taken out of the arrays is the entry taken out of the table
+  pub removed-places : (values : ℕ → A) (keys : List ℕ) (k : ℕ) → placesOf (set keys (firstOf keys (suc k)) 0) values ≡ removed (placesOf keys values) k
+  removed-places values keys k = rw (holder-places values keys k) (set-places values values keys (firstOf keys (suc k)) 0 (values 0) (λ n. absurd (n refl)) (λ j n m. refl))
+
+  -- an entry put at its seat in the arrays is stored in the table
+  pub stored-places : (values after : ℕ → A) (keys : List ℕ) (k : ℕ) (v : A) → after (seatOf keys (suc k)) ≡ v → ((j : ℕ) → (j ≡ seatOf keys (suc k) → ⊥) → (getD keys j 0 ≡ 0 → ⊥) → after j ≡ values j) → placesOf (set keys (seatOf keys (suc k)) (suc k)) after ≡ stored (placesOf keys values) k v
+  stored-places values after keys k v same other = rw (seat-places values keys k) (set-places values after keys (seatOf keys (suc k)) (suc k) v (λ n. same) other)
+
+-- the seat of a key that is held is its place
+pub seat-held : (keys : List ℕ) (key : ℕ) → firstOf keys key < length keys → seatOf keys key ≡ firstOf keys key
+unfolding seatOf
+seat-held keys key h = rw (lt-ltb _ _ h)
+
+-- the seat of a new key is the first free place
+pub seat-new : (keys : List ℕ) (key : ℕ) → length keys ≤ firstOf keys key → seatOf keys key ≡ firstOf keys 0
+unfolding seatOf
+seat-new keys key h = rw (le-ltb _ _ h)
+
+-- the same for a table whose values are an array of numbers
+module _ (keys numbers : List ℕ) (k n : ℕ) (sized : length numbers ≡ length keys) where
+  pub stored-numbers : seatOf keys (suc k) < length keys → placesOf (set keys (seatOf keys (suc k)) (suc k)) (λ i. getD (set numbers (seatOf keys (suc k)) n) i 0) ≡ stored (placesOf keys (λ i. getD numbers i 0)) k n
+  stored-numbers h = stored-places (λ i. getD numbers i 0) (λ i. getD (set numbers (seatOf keys (suc k)) n) i 0) keys k n (getD-set-same numbers (seatOf keys (suc k)) n 0 (rw sized h)) (λ j ne m. getD-set-other numbers (seatOf keys (suc k)) j n 0 ne)
+
+  -- a held number replaced
+  pub replaced-numbers : firstOf keys (suc k) < length keys → placesOf keys (λ i. getD (set numbers (firstOf keys (suc k)) n) i 0) ≡ stored (placesOf keys (λ i. getD numbers i 0)) k n
+  replaced-numbers h =
+      let e : seatOf keys (suc k) ≡ firstOf keys (suc k) = seat-held keys (suc k) h in
+      let s : set keys (firstOf keys (suc k)) (suc k) ≡ keys = ap (set keys (firstOf keys (suc k))) (sym (first-holds keys (suc k) h)) ∙ set-getD keys (firstOf keys (suc k)) 0 in
+      ap (λ (l : List ℕ). placesOf l (λ i. getD (set numbers (firstOf keys (suc k)) n) i 0)) (sym s) ∙ (rw e at (stored-numbers (rw e h)))
+
+  -- a number stored where the same one stands under the same key
+  pub stored-again : getD keys (seatOf keys (suc k)) 0 ≡ suc k → getD numbers (seatOf keys (suc k)) 0 ≡ n → seatOf keys (suc k) < length keys → placesOf keys (λ i. getD numbers i 0) ≡ stored (placesOf keys (λ i. getD numbers i 0)) k n
+  stored-again a b h =
+      let s : set keys (seatOf keys (suc k)) (suc k) ≡ keys = ap (set keys (seatOf keys (suc k))) (sym a) ∙ set-getD keys (seatOf keys (suc k)) 0 in
+      let t : set numbers (seatOf keys (suc k)) n ≡ numbers = ap (set numbers (seatOf keys (suc k))) (sym b) ∙ set-getD numbers (seatOf keys (suc k)) 0 in
+      rw (s, t) at (stored-numbers h)

@@ -1,2 +1,4 @@
 pub mod Status
 pub mod Marked
+pub mod Response
+pub mod Layouts

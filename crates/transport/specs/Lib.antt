@@ -1,3 +1,5 @@
 pub mod Status
 pub mod Number
 pub mod Marked
+pub mod Layouts
+pub mod Response

@@ -1,8 +1,17 @@
 // The gateway transport layer's payloads (transport.rs).
 ghost use mathlib.Core.Path.{_≡_};
+ghost use Prim.Native.Nat.{_≤_};
+ghost use lib.ListN.{getD};
 ghost use Rattle.laws.specs.Bytes.{of16};
-ghost use Rattle.transport.specs.Status.{acceptedOf, neededOf};
-ghost use Rattle.transport.specs.Number.{interpretOf};
+ghost use Rattle.transport.specs.Status.{acceptedOf, fieldSize, numberAt, neededOf};
+ghost use Rattle.transport.specs.Number.{interpretOf, numberOf};
+ghost use Rattle.transport.specs.Layouts.{exactly, atLeast, commandRequestIn, commandResponseIn, receiveRequestIn, identifyResponseIn, enumerationStartRequestIn, namedOf};
+ghost use Rattle.transport.specs.Response.{byteIn, pairIn, responseIn, receiveReadOf};
+use address::Address;
+use address::GatewayID;
+use network::LongAddress;
+use network::PacketType;
+use slot_counter::SlotCounter;
 
 // The number of a packet, as a gateway counts them.
 pub struct PacketNumber(pub u16);
@@ -43,4 +52,369 @@ pub fn interpret_packet_number_lo(lo: u8, old: PacketNumber) -> PacketNumber
     }
     let new_hi = std::num::wrapping_add_u8(old_hi, 1);
     PacketNumber(be16(new_hi, lo))
+}
+
+// Whether a payload has the length of its layout. A wrong one is refused by 21.
+pub enum Length {
+    Right,
+    Wrong,
+}
+
+// A byte of a payload; 0 past its end.
+fn byte_at(payload: &[u8], at: usize) -> u8
+    ensures { λ r. ⌜ r ≡ getD (now (payload .entry)) at 0 ⌝ }
+{
+    if at < payload.len() {
+        return payload[at];
+    }
+    0
+}
+
+// Whether a payload has exactly `n` bytes.
+fn exact_length(payload: &[u8], n: usize) -> Length
+    ensures { λ r. ⌜ r ≡ exactly n (now (payload .entry)) ⌝ }
+{
+    if payload.len() == n {
+        Length::Right
+    } else {
+        Length::Wrong
+    }
+}
+
+// Whether a payload has `n` bytes or more.
+fn least_length(payload: &[u8], n: usize) -> Length
+    ensures { λ r. ⌜ r ≡ atLeast n (now (payload .entry)) ⌝ }
+{
+    if payload.len() < n {
+        Length::Wrong
+    } else {
+        Length::Right
+    }
+}
+
+// A command request frame payload.
+pub struct CommandRequest {
+    pub unknown: [u8; 3],
+    pub packet_type: PacketType,
+    pub sequence_number: CommandSequenceNumber,
+}
+
+// What `CommandRequest::read` gives. Where the length is wrong, a byte that is not there is 0.
+pub struct ReadCommandRequest {
+    pub length: Length,
+    pub request: CommandRequest,
+}
+
+impl CommandRequest {
+    // The request that a payload of at least 5 bytes starts with.
+    pub fn read(payload: &[u8]) -> ReadCommandRequest
+        ensures { λ r. ⌜ r ≡ record { length = atLeast 5 (now (payload .entry)); request = commandRequestIn (now (payload .entry)) } ⌝ }
+    {
+        let length = least_length(payload, 5);
+        let unknown = [
+            byte_at(payload, 0),
+            byte_at(payload, 1),
+            byte_at(payload, 2),
+        ];
+        let packet_type = PacketType(byte_at(payload, 3));
+        let sequence_number = CommandSequenceNumber(byte_at(payload, 4));
+        let request = CommandRequest {
+            unknown,
+            packet_type,
+            sequence_number,
+        };
+        ReadCommandRequest { length, request }
+    }
+}
+
+// A command response frame payload.
+pub struct CommandResponse {
+    pub unknown_1: u8,
+    pub tx_buffers_free: u8,
+    pub unknown_2: u8,
+    pub packet_type: PacketType,
+    pub command_sequence_number: CommandSequenceNumber,
+}
+
+// What `CommandResponse::read` gives. Where the length is wrong, a byte that is not there is 0.
+pub struct ReadCommandResponse {
+    pub length: Length,
+    pub response: CommandResponse,
+}
+
+impl CommandResponse {
+    // The response that a payload of at least 5 bytes starts with.
+    pub fn read(payload: &[u8]) -> ReadCommandResponse
+        ensures { λ r. ⌜ r ≡ record { length = atLeast 5 (now (payload .entry)); response = commandResponseIn (now (payload .entry)) } ⌝ }
+    {
+        let length = least_length(payload, 5);
+        let unknown_1 = byte_at(payload, 0);
+        let tx_buffers_free = byte_at(payload, 1);
+        let unknown_2 = byte_at(payload, 2);
+        let packet_type = PacketType(byte_at(payload, 3));
+        let command_sequence_number = CommandSequenceNumber(byte_at(payload, 4));
+        let response = CommandResponse {
+            unknown_1,
+            tx_buffers_free,
+            unknown_2,
+            packet_type,
+            command_sequence_number,
+        };
+        ReadCommandResponse { length, response }
+    }
+}
+
+// A receive request frame payload.
+pub struct ReceiveRequest {
+    pub unknown_1: [u8; 2],
+    pub packet_number: PacketNumber,
+    pub unknown_2: u8,
+}
+
+// What `ReceiveRequest::read` gives. Where the length is wrong, a byte that is not there is 0.
+pub struct ReadReceiveRequest {
+    pub length: Length,
+    pub request: ReceiveRequest,
+}
+
+impl ReceiveRequest {
+    // The request that a payload of exactly 5 bytes is.
+    pub fn read(payload: &[u8]) -> ReadReceiveRequest
+        ensures { λ r. ⌜ r ≡ record { length = exactly 5 (now (payload .entry)); request = receiveRequestIn (now (payload .entry)) } ⌝ }
+    {
+        let length = exact_length(payload, 5);
+        let unknown_1 = [byte_at(payload, 0), byte_at(payload, 1)];
+        let packet_number = PacketNumber(be16(byte_at(payload, 2), byte_at(payload, 3)));
+        let unknown_2 = byte_at(payload, 4);
+        let request = ReceiveRequest {
+            unknown_1,
+            packet_number,
+            unknown_2,
+        };
+        ReadReceiveRequest { length, request }
+    }
+}
+
+// An identify response frame payload, and an enumeration response's.
+pub struct IdentifyResponse {
+    pub pv_long_address: LongAddress,
+    pub gateway_address: [u8; 2],
+}
+
+// What `IdentifyResponse::read` gives. Where the length is wrong, a byte that is not there is 0.
+pub struct ReadIdentifyResponse {
+    pub length: Length,
+    pub response: IdentifyResponse,
+}
+
+// The gateway that an address in a payload names, or none: its direction is From.
+pub enum Named {
+    Gateway(GatewayID),
+    FromAddress,
+}
+
+fn gateway_in(address: [u8; 2]) -> Named
+    ensures { λ r. ⌜ r ≡ namedOf address ⌝ }
+{
+    match Address::from_be_bytes(address) {
+        Address::From(_) => Named::FromAddress,
+        Address::To(id) => Named::Gateway(id),
+    }
+}
+
+impl IdentifyResponse {
+    // The response that a payload of exactly 10 bytes is.
+    pub fn read(payload: &[u8]) -> ReadIdentifyResponse
+        ensures { λ r. ⌜ r ≡ record { length = exactly 10 (now (payload .entry)); response = identifyResponseIn (now (payload .entry)) } ⌝ }
+    {
+        let length = exact_length(payload, 10);
+        let long = [
+            byte_at(payload, 0),
+            byte_at(payload, 1),
+            byte_at(payload, 2),
+            byte_at(payload, 3),
+            byte_at(payload, 4),
+            byte_at(payload, 5),
+            byte_at(payload, 6),
+            byte_at(payload, 7),
+        ];
+        let pv_long_address = LongAddress(long);
+        let gateway_address = [byte_at(payload, 8), byte_at(payload, 9)];
+        let response = IdentifyResponse {
+            pv_long_address,
+            gateway_address,
+        };
+        ReadIdentifyResponse { length, response }
+    }
+
+    // The gateway that the response names.
+    pub fn gateway_id(self) -> Named
+        ensures { λ r. ⌜ r ≡ namedOf (self .«gateway_address») ⌝ }
+    {
+        let address = self.gateway_address;
+        gateway_in(address)
+    }
+}
+
+// An enumeration start request frame payload.
+pub struct EnumerationStartRequest {
+    pub unknown: [u8; 4],
+    pub enumeration_address: [u8; 2],
+}
+
+// What `EnumerationStartRequest::read` gives. Where the length is wrong, a byte that is not there is 0.
+pub struct ReadEnumerationStartRequest {
+    pub length: Length,
+    pub request: EnumerationStartRequest,
+}
+
+impl EnumerationStartRequest {
+    // The request that a payload of exactly 6 bytes is.
+    pub fn read(payload: &[u8]) -> ReadEnumerationStartRequest
+        ensures { λ r. ⌜ r ≡ record { length = exactly 6 (now (payload .entry)); request = enumerationStartRequestIn (now (payload .entry)) } ⌝ }
+    {
+        let length = exact_length(payload, 6);
+        let unknown = [
+            byte_at(payload, 0),
+            byte_at(payload, 1),
+            byte_at(payload, 2),
+            byte_at(payload, 3),
+        ];
+        let enumeration_address = [byte_at(payload, 4), byte_at(payload, 5)];
+        let request = EnumerationStartRequest {
+            unknown,
+            enumeration_address,
+        };
+        ReadEnumerationStartRequest { length, request }
+    }
+
+    // The gateway that is to be enumerated with. A From address is refused by 28.
+    pub fn enumeration_gateway_id(self) -> Named
+        ensures { λ r. ⌜ r ≡ namedOf (self .«enumeration_address») ⌝ }
+    {
+        let address = self.enumeration_address;
+        gateway_in(address)
+    }
+}
+
+// A byte that may be missing.
+pub enum OptionalByte {
+    One(u8),
+    NoByte,
+}
+
+// Two bytes that may be missing.
+pub enum OptionalPair {
+    Two(u8, u8),
+    NoPair,
+}
+
+// A receive response frame payload, decoded into its most general form.
+pub struct ReceiveResponse {
+    pub rx_buffers_used: OptionalByte,
+    pub tx_buffers_free: OptionalByte,
+    pub unknown_a: OptionalPair,
+    pub unknown_b: OptionalPair,
+    pub packet_number: PacketNumber,
+    pub slot_counter: SlotCounter,
+}
+
+// What `ReceiveResponse::read` gives: the fields and where the packet area starts in the payload; or the refusal 23 with the length that is
+// needed; or the refusal 22 with the status word.
+pub enum ReceiveRead {
+    Response(ReceiveResponse, usize),
+    TooShort(usize),
+    UnknownStatusType(u16),
+}
+
+// The size of a field that is there while its bit is clear.
+fn field_size(status: u16, bit: u16, size: usize) -> usize
+    ensures { λ r. ⌜ r ≡ fieldSize status bit size ⌝ }
+{
+    if status & bit == 0 { size } else { 0 }
+}
+
+// A byte field: there or not.
+fn optional_byte(payload: &[u8], there: bool, at: usize) -> OptionalByte
+    ensures { λ r. ⌜ r ≡ byteIn there (now (payload .entry)) at ⌝ }
+{
+    if there {
+        OptionalByte::One(byte_at(payload, at))
+    } else {
+        OptionalByte::NoByte
+    }
+}
+
+// A field of two bytes: there or not.
+fn optional_pair(payload: &[u8], there: bool, at: usize) -> OptionalPair
+    requires { ⌜ at ≤ 8 ⌝ }
+    ensures { λ r. ⌜ r ≡ pairIn there (now (payload .entry)) at ⌝ }
+{
+    if there {
+        OptionalPair::Two(byte_at(payload, at), byte_at(payload, at + 1))
+    } else {
+        OptionalPair::NoPair
+    }
+}
+
+// The packet number: two bytes, or one to be interpreted after `old`.
+fn packet_number(payload: &[u8], status: u16, at: usize, old: PacketNumber) -> PacketNumber
+    requires { ⌜ at ≡ numberAt status ⌝ }
+    ensures { λ r. ⌜ r .0 ≡ numberOf status (now (payload .entry)) (old .0) ⌝ }
+{
+    let first = byte_at(payload, at);
+    if status & 0x0010 == 0 {
+        PacketNumber(be16(first, byte_at(payload, at + 1)))
+    } else {
+        interpret_packet_number_lo(first, old)
+    }
+}
+
+// The fields of a response with this status word, each where those before it leave off.
+fn fields(payload: &[u8], status: u16, old: PacketNumber) -> ReceiveResponse
+    ensures { λ r. ⌜ r ≡ responseIn status (now (payload .entry)) (old .0) ⌝ }
+{
+    let tx_at = 2 + field_size(status, 0x0001, 1);
+    let a_at = tx_at + field_size(status, 0x0002, 1);
+    let b_at = a_at + field_size(status, 0x0004, 2);
+    let number_at = b_at + field_size(status, 0x0008, 2);
+    let slot_at = number_at + 1 + field_size(status, 0x0010, 1);
+    let rx_buffers_used = optional_byte(payload, status & 0x0001 == 0, 2);
+    let tx_buffers_free = optional_byte(payload, status & 0x0002 == 0, tx_at);
+    let unknown_a = optional_pair(payload, status & 0x0004 == 0, a_at);
+    let unknown_b = optional_pair(payload, status & 0x0008 == 0, b_at);
+    let packet_number = packet_number(payload, status, number_at, old);
+    let slot_counter = SlotCounter::from_be_bytes(
+        byte_at(payload, slot_at),
+        byte_at(payload, slot_at + 1),
+    );
+    ReceiveResponse {
+        rx_buffers_used,
+        tx_buffers_free,
+        unknown_a,
+        unknown_b,
+        packet_number,
+        slot_counter,
+    }
+}
+
+impl ReceiveResponse {
+    // The response that a payload is, after the packet number `old`, and where its packet area starts. Refused by 23 if under 2 bytes, then by 22,
+    // then by 23.
+    pub fn read(payload: &[u8], old: PacketNumber) -> ReceiveRead
+        ensures { λ r. ⌜ r ≡ receiveReadOf (now (payload .entry)) (old .0) ⌝ }
+    {
+        if payload.len() < 2 {
+            return ReceiveRead::TooShort(5);
+        }
+        let status = be16(payload[0], payload[1]);
+        if !accepted(status) {
+            return ReceiveRead::UnknownStatusType(status);
+        }
+        let area = needed(status);
+        if payload.len() < area {
+            return ReceiveRead::TooShort(area);
+        }
+        ReceiveRead::Response(fields(payload, status, old), area)
+    }
 }

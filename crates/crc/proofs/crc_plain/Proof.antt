@@ -1,19 +1,19 @@
--- `crc::crc` is the check of the whole slice: the check of what is left, from what was made so far, stays the same. Assumes nothing.
+-- `crc::crc_plain` is the check of the whole slice: the check of what is left, from what was made so far, stays the same. Assumes nothing.
 use Prim.Native.Nat.{_≤_, _-_}
 use mathlib.Core.Path.{_≡_, refl, sym, _∙_}
 use borrow.Author.Needs.{needs}
 use lib.ListN.{length, drop}
-use Rattle.crc.specs.Crc.{crcFrom, crcOf}
+use Rattle.crc.specs.Crc.{crcFrom}
 use Rattle.crc.specs.Table.{table}
 use Rattle.crc.proofs.Laws.{crcFrom-drop, crcFrom-end}
-use Rattle.crc.proofs.crc.Statement.{statement}
-use Rattle.crc.proofs.crc.Tie as tie
+use Rattle.crc.proofs.crc_plain.Statement.{statement}
+use Rattle.crc.proofs.crc_plain.Tie as tie
 
 abbrev Inv-loop : tie.InvT-loop
-Inv-loop buffer t crc₀ i₀ crc i = (i ≤ length buffer) × (crcFrom crc (drop i buffer) ≡ crcOf buffer)
+Inv-loop start buffer t crc₀ i₀ crc i = (i ≤ length buffer) × (crcFrom crc (drop i buffer) ≡ crcFrom start buffer)
 
 abbrev μ-loop : tie.MeasureT-loop
-μ-loop buffer t crc₀ i₀ crc i = length buffer - i
+μ-loop start buffer t crc₀ i₀ crc i = length buffer - i
 
 loop-holds : tie.Need-loop-holds Inv-loop μ-loop
 loop-holds c = (search needs, refl)
@@ -42,8 +42,8 @@ returns c =
     let l = c .before .loop in
     sym (crcFrom-end (c .before .before .before .args .buffer .now) (l .i) (l .crc) (search needs)) ∙ l .inv .1
 
-pub crc-spec : {M : Type 1} → statement M
-crc-spec =
+pub crc-plain-spec : {M : Type 1} → statement M
+crc-plain-spec =
     tie.close
     (tie.spec
     Inv-loop

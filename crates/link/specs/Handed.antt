@@ -1,0 +1,55 @@
+-- What `encode` hands back, in 01's numbers and values, and what it writes, over any check. Assumes nothing.
+use Prim.Native.Nat.{ℕ, _+_}
+use mathlib.Core.Bool.{cond}
+use mathlib.Core.List.{List}
+use lib.ListN.{length}
+use lib.Seq.{paste}
+use lib.Dec.{ltb}
+use Rattle.laws.specs.Bytes.{laidOver}
+use Rattle.laws.specs.Handed.{Handed, refused, value}
+use Rattle.address.specs.Address.{idLimit, gatewayOf, numberOf}
+use Rattle.address.specs.declared.Address.{Address}
+use Rattle.link.specs.Wire.{Frame, end, payloadLimit, encodedOf}
+use Rattle.link.specs.declared.Encoded.{Encoded}
+use Rattle.link.specs.declared.Encoded.the-variants.{Written, InvalidID, TooLong, NoRoom}
+
+abbrev pub handed : Encoded → Handed ℕ
+handed (Written n) = value n
+handed InvalidID = refused 13
+handed TooLong = refused 10
+handed NoRoom = refused 11
+
+-- 01, "Numbers handed back", 11: room below the exact length
+abbrev pub writtenHanded : List ℕ → ℕ → Handed ℕ
+writtenHanded wire room = cond (ltb room (length wire)) (refused 11) (value (length wire))
+
+-- 01: no refusal touches an output buffer. An accepted encoding changes only the bytes written
+abbrev pub writtenBytes : List ℕ → List ℕ → List ℕ
+writtenBytes wire out = cond (ltb (length out) (length wire)) out (laidOver wire out)
+
+-- a start written over a buffer, and the end m bytes behind it
+abbrev pub bracketed : List ℕ → ℕ → List ℕ → List ℕ
+bracketed start m out = paste (paste out 0 start (length start)) (length start + m) end 2
+
+-- the frame of an address, a type and a payload
+abbrev pub frameFor : Address → ℕ → List ℕ → Frame
+frameFor a kind payload = record { address = numberOf a; kind = kind; payload = payload }
+
+module _ (check : List ℕ → ℕ) where
+  -- 01, "Numbers handed back", 10: encode: payload over 250; then 11
+  unfoldable pub numberedHanded : Frame → ℕ → Handed ℕ
+  numberedHanded f room = cond (ltb payloadLimit (length (f .payload))) (refused 10) (writtenHanded (encodedOf check f) room)
+
+  unfoldable pub numberedBytes : Frame → List ℕ → List ℕ
+  numberedBytes f out = cond (ltb payloadLimit (length (f .payload))) out (writtenBytes (encodedOf check f) out)
+
+  -- for encode 13, 10, 11
+  unfoldable pub encodeHanded : Address → ℕ → List ℕ → ℕ → Handed ℕ
+  encodeHanded a kind payload room =
+      cond (ltb idLimit (gatewayOf a)) (refused 13)
+      (numberedHanded (frameFor a kind payload) room)
+
+  unfoldable pub encodeBytes : Address → ℕ → List ℕ → List ℕ → List ℕ
+  encodeBytes a kind payload out =
+      cond (ltb idLimit (gatewayOf a)) out
+      (numberedBytes (frameFor a kind payload) out)

@@ -1,0 +1,90 @@
+-- The payload layouts of fixed and of least length: what the bytes at each place are. Assumes nothing.
+use Prim.Native.Nat.{ℕ}
+use mathlib.Core.Bool.{Bool, true, false, cond}
+use mathlib.Core.List.{List, [], _∷_}
+use lib.ListN.{length, getD}
+use lib.Dec.{eqb, ltb}
+use Rattle.laws.specs.Bytes.{be16At}
+use Rattle.laws.specs.Handed.{Handed, refused, value}
+use Rattle.address.specs.declared.Address.{Address}
+use Rattle.address.specs.declared.Address.the-variants.{From, To}
+use Rattle.address.specs.Address.{addressOf}
+use Rattle.transport.specs.declared.Length.{Length}
+use Rattle.transport.specs.declared.Length.the-variants.{Right, Wrong}
+use Rattle.transport.specs.declared.Named.{Named}
+use Rattle.transport.specs.declared.Named.the-variants.{Gateway, FromAddress}
+use Rattle.transport.specs.declared.CommandRequest.{CommandRequest}
+use Rattle.transport.specs.declared.CommandResponse.{CommandResponse}
+use Rattle.transport.specs.declared.ReceiveRequest.{ReceiveRequest}
+use Rattle.transport.specs.declared.IdentifyResponse.{IdentifyResponse}
+use Rattle.transport.specs.declared.EnumerationStartRequest.{EnumerationStartRequest}
+
+-- 01, "Numbers handed back", 21: wrong or short fixed length
+abbrev pub handed : {A : Type 0} → Length → A → Handed A
+handed Right a = value a
+handed Wrong a = refused 21
+
+-- a payload of exactly so many bytes, and of so many or more
+abbrev pub exactly : ℕ → List ℕ → Length
+exactly n payload = cond (eqb (length payload) n) Right Wrong
+
+abbrev pub atLeast : ℕ → List ℕ → Length
+atLeast n payload = cond (ltb (length payload) n) Wrong Right
+
+-- 01, "Transport": command request 3 unknown, packet type, sequence (5)
+abbrev pub commandRequestIn : List ℕ → CommandRequest
+commandRequestIn p =
+    record {
+      unknown = getD p 0 0 ∷ getD p 1 0 ∷ getD p 2 0 ∷ [];
+      «packet_type» = record { 0 = getD p 3 0 };
+      «sequence_number» = record { 0 = getD p 4 0 };
+    }
+
+-- command response unknown, buffers free, unknown, packet type, sequence (5)
+abbrev pub commandResponseIn : List ℕ → CommandResponse
+commandResponseIn p =
+    record {
+      «unknown_1» = getD p 0 0;
+      «tx_buffers_free» = getD p 1 0;
+      «unknown_2» = getD p 2 0;
+      «packet_type» = record { 0 = getD p 3 0 };
+      «command_sequence_number» = record { 0 = getD p 4 0 };
+    }
+
+-- receive request 2 unknown, packet number big-endian, 1 unknown (5, exactly)
+abbrev pub receiveRequestIn : List ℕ → ReceiveRequest
+receiveRequestIn p =
+    record {
+      «unknown_1» = getD p 0 0 ∷ getD p 1 0 ∷ [];
+      «packet_number» = record { 0 = be16At p 2 };
+      «unknown_2» = getD p 4 0;
+    }
+
+-- identify and enumeration response long address (8) and gateway address (10, exactly)
+abbrev pub identifyResponseIn : List ℕ → IdentifyResponse
+identifyResponseIn p =
+    record {
+      «pv_long_address» = record { 0 = getD p 0 0 ∷ getD p 1 0 ∷ getD p 2 0 ∷ getD p 3 0 ∷ getD p 4 0 ∷ getD p 5 0 ∷ getD p 6 0 ∷ getD p 7 0 ∷ [] };
+      «gateway_address» = getD p 8 0 ∷ getD p 9 0 ∷ [];
+    }
+
+-- enumeration start 4 unknown and an address (6, exactly)
+abbrev pub enumerationStartRequestIn : List ℕ → EnumerationStartRequest
+enumerationStartRequestIn p =
+    record {
+      unknown = getD p 0 0 ∷ getD p 1 0 ∷ getD p 2 0 ∷ getD p 3 0 ∷ [];
+      «enumeration_address» = getD p 4 0 ∷ getD p 5 0 ∷ [];
+    }
+
+-- the gateway that an address names if its direction is To
+abbrev pub toGateway : Address → Named
+toGateway (To g) = Gateway g
+toGateway (From g) = FromAddress
+
+unfoldable pub namedOf : List ℕ → Named
+namedOf address = toGateway (addressOf (be16At address 0))
+
+-- 01, "Numbers handed back", 28: enumeration start names a From address
+abbrev pub handedNamed : Named → Handed ℕ
+handedNamed (Gateway g) = value (g .0)
+handedNamed FromAddress = refused 28

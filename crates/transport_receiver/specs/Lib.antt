@@ -1,0 +1,6 @@
+pub mod Counters
+pub mod Types
+pub mod State
+pub mod Lent
+pub mod Step
+pub mod Handed

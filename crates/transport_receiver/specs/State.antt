@@ -1,0 +1,52 @@
+-- The transport receiver's state in 01's words, and what its arrays mean. Assumes nothing.
+use Prim.Native.Nat.{ℕ, _+_, _*_}
+use mathlib.Core.Bool.{Bool}
+use mathlib.Core.List.{List}
+use lib.ListN.{getD, take, drop}
+use Rattle.tables.specs.Places.{Place, placesOf}
+use Rattle.transport_receiver.specs.declared.Receiver.{Receiver}
+
+-- 01, "Transport": a command request is kept under gateway and sequence: both as one number
+abbrev pub commandKey : ℕ → ℕ → ℕ
+commandKey gateway sequence = gateway * 256 + sequence
+
+-- a waiting command: the request's packet type, its payload's length, its payload
+pub record Command : Type 0 where
+  pub kind : ℕ
+  pub size : ℕ
+  pub payload : List ℕ
+
+-- 01, "Transport": tables: 32 packet numbers, 32 last sequences, 64 waiting commands of up to 245 payload bytes
+abbrev pub roomOfCommand : ℕ
+roomOfCommand = 245
+
+pub record State : Type 0 where
+  pub numbers : List (Place ℕ)
+  pub sequences : List (Place ℕ)
+  pub commands : List (Place Command)
+  pub counters : List ℕ
+
+-- the bytes of the pool that belong to a place, as many as its length says
+abbrev pub payloadAt : List ℕ → ℕ → ℕ → List ℕ
+payloadAt pool i size = take size (drop (i * roomOfCommand) pool)
+
+abbrev pub commandIn : List ℕ → List ℕ → List ℕ → ℕ → Command
+commandIn types lengths pool i =
+    record { kind = getD types i 0; size = getD lengths i 0; payload = payloadAt pool i (getD lengths i 0) }
+
+-- what the arrays mean: the one definition of it
+unfoldable pub stateOf : Receiver → State
+stateOf r =
+    record {
+      numbers = placesOf (r .nkeys) (λ i. getD (r .numbers) i 0);
+      sequences = placesOf (r .skeys) (λ i. getD (r .sequences) i 0);
+      commands = placesOf (r .ckeys) (commandIn (r .ctypes) (r .clengths) (r .cpayloads));
+      counters = r .counters;
+    }
+
+-- a frame as it is given to the step
+pub record Frame : Type 0 where
+  pub from : Bool
+  pub gateway : ℕ
+  pub kind : ℕ
+  pub payload : List ℕ

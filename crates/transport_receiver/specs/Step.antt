@@ -1,0 +1,220 @@
+-- What a sound frame means: 01's refusals in their order, and what an accepted frame does. Assumes nothing.
+use Prim.Native.Nat.{ℕ, _+_, _*_, _%_, _^_}
+use mathlib.Core.Bool.{Bool, true, false, cond, not, _&&_, _||_}
+use mathlib.Core.List.{List, [], _∷_}
+use mathlib.Core.Option.{Option, none, some}
+use lib.ListN.{length, getD, take, drop}
+use lib.Dec.{eqb, ltb}
+use Rattle.laws.specs.Bytes.{be16At}
+use Rattle.address.specs.Address.{idLimit, gatewayOf, isFrom, addressOf}
+use Rattle.utf8.specs.Scan.{isText}
+use Rattle.network.specs.Split.{tallyOf}
+use Rattle.transport.specs.Status.{acceptedOf, neededOf, slotCounterAt}
+use Rattle.transport.specs.Number.{numberOf}
+use Rattle.tables.specs.Places.{Place, free, held, isHeld, hasRoom, stored, removed, valueAt}
+use Rattle.transport_receiver.specs.Counters
+use Rattle.transport_receiver.specs.Counters.{raise, add}
+use Rattle.transport_receiver.specs.Types
+use Rattle.transport_receiver.specs.Types.{isOneOf, isNamed, invalidOf, counterOf}
+use Rattle.transport_receiver.specs.State.{Command, State, Frame, commandKey, roomOfCommand}
+
+-- 01, "Event record": what an event says; its gateway comes first
+pub data Event : Type 0 where
+  enumeration-started : ℕ → Event
+  identity : ℕ → List ℕ → Event
+  version : ℕ → List ℕ → Event
+  enumeration-ended : ℕ → Event
+  slot-captured : ℕ → Event
+  -- slot counter, repeat mark, packet area
+  slot-counter : ℕ → ℕ → Bool → List ℕ → Event
+  -- request type and payload, response type and payload
+  command : ℕ → ℕ → List ℕ → ℕ → List ℕ → Event
+
+-- what a step hands back: a number of 01's table (23 with the length needed), or that the frame is accepted, with its event if it has one
+pub data Outcome : Type 0 where
+  refused : ℕ → Outcome
+  short : ℕ → Outcome
+  silent : Outcome
+  event : Event → Outcome
+
+pub record Result : Type 0 where
+  pub outcome : Outcome
+  pub state : State
+
+-- the sequence number of a command's request or response
+abbrev pub sequenceOf : List ℕ → ℕ
+sequenceOf p = getD p 4 0
+
+abbrev pub keyOf : Frame → ℕ
+keyOf f = commandKey (f .gateway) (sequenceOf (f .payload))
+
+-- 01, "Numbers handed back", 12: state with a length over its limit. Only a held place's length can be
+abbrev pub isOver : Place Command → Bool
+isOver free = false
+isOver (held k c) = ltb roomOfCommand (c .size)
+
+unfoldable pub overLimit : List (Place Command) → Bool
+overLimit [] = false
+overLimit (p ∷ ps) = cond (isOver p) true (overLimit ps)
+
+-- 20: wrong direction, or enumeration start not To 0
+abbrev pub wrongDirection : Frame → Bool
+wrongDirection f =
+    cond (isOneOf (Types.receive-request ∷ Types.command-request ∷ []) (f .kind)) (f .from)
+    (cond (eqb (f .kind) Types.enumeration-start-request) (f .from || not (eqb (f .gateway) 0))
+    (cond (isOneOf (Types.receive-response ∷ Types.command-response ∷ Types.enumeration-response ∷ Types.identify-response ∷ Types.version-response ∷ Types.enumeration-end-response ∷ []) (f .kind)) (not (f .from))
+    false))
+
+-- 21: wrong or short fixed length
+abbrev pub wrongLength : Frame → Bool
+wrongLength f =
+    cond (eqb (f .kind) Types.receive-request) (not (eqb (length (f .payload)) 5))
+    (cond (isOneOf (Types.identify-response ∷ Types.enumeration-response ∷ []) (f .kind)) (not (eqb (length (f .payload)) 10))
+    (cond (eqb (f .kind) Types.enumeration-start-request) (not (eqb (length (f .payload)) 6))
+    (cond (isOneOf (Types.command-request ∷ Types.command-response ∷ []) (f .kind)) (ltb (length (f .payload)) 5)
+    false)))
+
+-- a receive response's status word
+abbrev pub statusOf : Frame → ℕ
+statusOf f = be16At (f .payload) 0
+
+-- a refusal: when its row holds, what it hands back, and the counter that it raises, if any
+pub record Row : Type 0 where
+  pub holds : Bool
+  pub outcome : Outcome
+  pub counter : Option ℕ
+
+abbrev pub row : Bool → Outcome → Option ℕ → Row
+row h o c = record { holds = h; outcome = o; counter = c }
+
+-- 01, "Numbers handed back": the order 12, 13, 32 ..
+abbrev pub rowsOfAny : State → Frame → List Row → List Row
+rowsOfAny s f rows =
+    row (overLimit (s .commands)) (refused 12) none
+    ∷ row (ltb idLimit (f .gateway)) (refused 13) none
+    ∷ row (ltb 250 (length (f .payload))) (refused 32) none
+    ∷ rows
+
+-- .. 31, 20, 24, 21 (for a receive response 23 if under 2 bytes, then 22, then 23), 28, 29, 26, 27, 25, 30.
+-- Refusals 20 to 24 and 28 to 31 raise the source's counter for that case; the others raise none
+abbrev pub rowsOfType : State → Frame → List Row
+rowsOfType s f =
+    row (not (isNamed (f .kind))) (refused 31) (some Counters.unhandled-frame-type)
+    ∷ row (wrongDirection f) (refused 20) (some (invalidOf (f .kind)))
+    ∷ row (eqb (f .kind) Types.receive-response && not (isHeld (s .numbers) (f .gateway))) (refused 24) (some Counters.receive-response-from-unknown-gateway)
+    ∷ row (wrongLength f) (refused 21) (some (invalidOf (f .kind)))
+    ∷ row (eqb (f .kind) Types.receive-response && ltb (length (f .payload)) 2) (short 5) (some (invalidOf (f .kind)))
+    ∷ row (eqb (f .kind) Types.receive-response && not (acceptedOf (statusOf f))) (refused 22) (some (invalidOf (f .kind)))
+    ∷ row (eqb (f .kind) Types.receive-response && ltb (length (f .payload)) (neededOf (statusOf f))) (short (neededOf (statusOf f))) (some (invalidOf (f .kind)))
+    ∷ row (eqb (f .kind) Types.enumeration-start-request && isFrom (addressOf (be16At (f .payload) 4))) (refused 28) (some (invalidOf (f .kind)))
+    ∷ row (eqb (f .kind) Types.version-response && not (isText (f .payload))) (refused 29) (some (invalidOf (f .kind)))
+    ∷ row (eqb (f .kind) Types.command-request && not (hasRoom (s .sequences) (f .gateway))) (refused 26) none
+    ∷ row (eqb (f .kind) Types.command-request && not (hasRoom (s .commands) (keyOf f))) (refused 27) none
+    ∷ row (eqb (f .kind) Types.receive-request && not (hasRoom (s .numbers) (f .gateway))) (refused 25) none
+    ∷ row (eqb (f .kind) Types.command-response && not (isHeld (s .commands) (keyOf f))) (refused 30) (some Counters.retransmitted-command-responses)
+    ∷ []
+
+-- a state with other counters
+abbrev pub counting : State → List ℕ → State
+counting s cs = record { numbers = s .numbers; sequences = s .sequences; commands = s .commands; counters = cs }
+
+abbrev pub raiseAny : Option ℕ → List ℕ → List ℕ
+raiseAny none cs = cs
+raiseAny (some i) cs = raise i cs
+
+-- no refusal gives an event or touches a table
+abbrev pub refuse : State → Row → Result
+refuse s r = record { outcome = r .outcome; state = counting s (raiseAny (r .counter) (s .counters)) }
+
+abbrev pub numberIn : Option ℕ → ℕ
+numberIn none = 0
+numberIn (some n) = n
+
+-- Added: the slot event carries a repeat mark, set when the response's number equals the one stored before it
+abbrev pub repeats : ℕ → ℕ → List ℕ → Bool
+repeats number before area = eqb number before
+
+-- both packet counters are raised by the transport step itself, for the whole area, walked or not
+abbrev pub countPackets : List ℕ → List ℕ → List ℕ
+countPackets area cs =
+    add (tallyOf area .short) Counters.receive-packet-too-short (add (tallyOf area .packets) Counters.receive-packets cs)
+
+-- a good receive response: the number replaces the one stored before
+abbrev pub received : State → Frame → ℕ → List ℕ → Result
+received s f before area =
+    record {
+      outcome = event (slot-counter (f .gateway) (be16At (f .payload) (slotCounterAt (statusOf f))) (repeats (numberOf (statusOf f) (f .payload) before) before area) area);
+      state = record {
+        numbers = stored (s .numbers) (f .gateway) (numberOf (statusOf f) (f .payload) before);
+        sequences = s .sequences;
+        commands = s .commands;
+        counters = countPackets area (raise Counters.receive-responses (s .counters));
+      };
+    }
+
+-- a receive request stores its number for the gateway
+abbrev pub captured : State → Frame → Result
+captured s f =
+    record {
+      outcome = event (slot-captured (f .gateway));
+      state = record { numbers = stored (s .numbers) (f .gateway) (be16At (f .payload) 2); sequences = s .sequences; commands = s .commands; counters = raise Counters.receive-requests (s .counters) };
+    }
+
+-- it counts as retransmitted if its sequence is the gateway's last
+abbrev pub isLast : Option ℕ → ℕ → Bool
+isLast none n = false
+isLast (some m) n = eqb m n
+
+-- a command request is kept under gateway and sequence, replacing an older one there
+abbrev pub kept : State → Frame → Result
+kept s f =
+    record {
+      outcome = silent;
+      state = record {
+        numbers = s .numbers;
+        sequences = stored (s .sequences) (f .gateway) (sequenceOf (f .payload));
+        commands = stored (s .commands) (keyOf f) (record { kind = getD (f .payload) 3 0; size = length (drop 5 (f .payload)); payload = drop 5 (f .payload) });
+        counters = raise (cond (isLast (valueAt (s .sequences) (f .gateway)) (sequenceOf (f .payload))) Counters.retransmitted-command-requests Counters.command-requests) (s .counters);
+      };
+    }
+
+abbrev pub executedOf : Option Command → Frame → Outcome
+executedOf none f = silent
+executedOf (some c) f = event (command (f .gateway) (c .kind) (c .payload) (getD (f .payload) 3 0) (drop 5 (f .payload)))
+
+-- a response takes its request out
+abbrev pub executed : State → Frame → Result
+executed s f =
+    record {
+      outcome = executedOf (valueAt (s .commands) (keyOf f)) f;
+      state = record { numbers = s .numbers; sequences = s .sequences; commands = removed (s .commands) (keyOf f); counters = raise Counters.command-responses (s .counters) };
+    }
+
+-- an accepted frame that changes a counter alone
+abbrev pub counted : State → Outcome → ℕ → Result
+counted s o i = record { outcome = o; state = counting s (raise i (s .counters)) }
+
+-- what an accepted frame does, by its type
+abbrev pub accepted : State → Frame → Result
+accepted s f =
+    cond (eqb (f .kind) Types.receive-request) (captured s f)
+    (cond (eqb (f .kind) Types.receive-response) (received s f (numberIn (valueAt (s .numbers) (f .gateway))) (drop (neededOf (statusOf f)) (f .payload)))
+    (cond (eqb (f .kind) Types.command-request) (kept s f)
+    (cond (eqb (f .kind) Types.command-response) (executed s f)
+    (cond (eqb (f .kind) Types.enumeration-start-request) (counted s (event (enumeration-started (gatewayOf (addressOf (be16At (f .payload) 4))))) Counters.enumeration-start-requests)
+    (cond (eqb (f .kind) Types.enumeration-response) (counted s (event (identity (f .gateway) (take 8 (f .payload)))) Counters.enumeration-responses)
+    (cond (eqb (f .kind) Types.identify-response) (counted s (event (identity (f .gateway) (take 8 (f .payload)))) Counters.identify-responses)
+    (cond (eqb (f .kind) Types.version-response) (counted s (event (version (f .gateway) (f .payload))) Counters.version-responses)
+    (cond (eqb (f .kind) Types.enumeration-end-response) (counted s (event (enumeration-ended (f .gateway))) Counters.enumeration-end-responses)
+    (counted s silent (counterOf (f .kind)))))))))))
+
+-- each refusal is given exactly when its row holds and no earlier one does
+abbrev pub judged : List Row → State → Frame → Result
+judged [] s f = accepted s f
+judged (r ∷ rs) s f = cond (r .holds) (refuse s r) (judged rs s f)
+
+unfoldable pub handledOf : State → Frame → Result
+handledOf s f = judged (rowsOfType s f) s f
+
+unfoldable pub stepOf : State → Frame → Result
+stepOf s f = judged (rowsOfAny s f (rowsOfType s f)) s f

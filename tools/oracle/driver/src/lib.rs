@@ -1,0 +1,8 @@
+//! The Rust and the proved side, each behind plain functions over bytes, and what makes their inputs.
+pub mod compare;
+pub mod doors;
+pub mod make;
+pub mod oracle;
+pub mod rng;
+pub mod show;
+pub mod shrink;

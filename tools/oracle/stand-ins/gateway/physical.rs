@@ -1,0 +1,1 @@
+//! Not among the papers; nothing that is compiled here uses it.

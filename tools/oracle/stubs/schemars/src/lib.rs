@@ -1,0 +1,2 @@
+//! The derive's name alone: schemas stay behind.
+pub use derive::JsonSchema;

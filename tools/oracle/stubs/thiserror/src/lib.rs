@@ -1,0 +1,2 @@
+//! The derive's name alone.
+pub use derive::Error;
