@@ -5,9 +5,17 @@ ghost use mathlib.Core.Path.{_≡_};
 ghost use mathlib.Core.Logic.{_↔_};
 ghost use mathlib.Core.Bool.{true};
 ghost use Rattle.crc.specs.Crc.{crcOf};
-ghost use Rattle.escaping.specs.Handed.{unescapeHanded};
+ghost use lib.ListN.{length};
+ghost use Rattle.escaping.specs.Handed.{unescapeHanded, lengthHanded, escapeHanded, escapeBytes};
+ghost use Rattle.address.specs.Address.{addressOf};
+ghost use Rattle.address.specs.Handed.{idHanded, numberHanded};
 ghost use Rattle.utf8.specs.Utf8.{Text};
+ghost use Rattle.network.specs.Split.{foundAt, tallyOf};
+ghost use Rattle.transport.specs.Status.{acceptedOf, neededOf};
+ghost use Rattle.transport.specs.Number.{interpretOf};
+ghost use Rattle.doors.specs.Packets.{kindOf, placesOf, countsOf};
 ghost use Rattle.doors.specs.Numbered.{numbered};
+ghost use Rattle.doors.specs.Addresses.{directed, toward};
 
 // The check of a slice.
 #[no_mangle]
@@ -29,10 +37,138 @@ pub extern "C" fn johkkesir_unescaped_byte(code: u8) -> u64
     }
 }
 
+// The length of the escaped form, or 10.
+#[no_mangle]
+pub extern "C" fn johkkesir_escaped_length(input: &[u8]) -> u64
+    ensures { λ r. ⌜ r ≡ numbered (lengthHanded (now (input .entry))) ⌝ }
+{
+    match escaping::escaped_length(input) {
+        escaping::Measured::Length(n) => n as u64,
+        escaping::Measured::TooLong => 10 << 32,
+    }
+}
+
+// Escapes `input` to the start of `out`, and gives how many bytes it wrote, or 10 or 11.
+#[no_mangle]
+pub extern "C" fn johkkesir_escape(input: &[u8], out: &mut [u8]) -> u64
+    ensures { λ r. ⌜ r ≡ numbered (escapeHanded (now (input .entry)) (length (now (out .entry)))) ⌝ }
+    ensures { λ _. ⌜ now (out .exit) ≡ escapeBytes (now (input .entry)) (now (out .entry)) ⌝ }
+{
+    match escaping::escape(input, out) {
+        escaping::Escaped::Written(n) => n as u64,
+        escaping::Escaped::TooLong => 10 << 32,
+        escaping::Escaped::NoRoom => 11 << 32,
+    }
+}
+
+// The gateway ID of a number, or 13.
+#[no_mangle]
+pub extern "C" fn johkkesir_gateway_id(number: u16) -> u64
+    ensures { λ r. ⌜ r ≡ numbered (idHanded number) ⌝ }
+{
+    match address::GatewayID::new(number) {
+        address::Made::ID(id) => id.0 as u64,
+        address::Made::Invalid => 13 << 32,
+    }
+}
+
+// The gateway ID in the address that 16 bits say, and 2^16 more if it is From that gateway.
+#[no_mangle]
+pub extern "C" fn johkkesir_address(number: u16) -> u32
+    ensures { λ r. ⌜ r ≡ directed (addressOf number) ⌝ }
+{
+    match address::Address::from_u16(number) {
+        address::Address::From(id) => 0x1_0000 + (id.0 as u32),
+        address::Address::To(id) => id.0 as u32,
+    }
+}
+
+// The 16 bits of an address, or 13.
+fn number_of(a: address::Address) -> u64
+    ensures { λ r. ⌜ r ≡ numbered (numberHanded a) ⌝ }
+{
+    match a.to_u16() {
+        address::Numbered::Number(n) => n as u64,
+        address::Numbered::Invalid => 13 << 32,
+    }
+}
+
+// The 16 bits of the address From or To a gateway, or 13.
+#[no_mangle]
+pub extern "C" fn johkkesir_address_number(from: bool, id: u16) -> u64
+    ensures { λ r. ⌜ r ≡ numbered (numberHanded (toward from id)) ⌝ }
+{
+    if from {
+        return number_of(address::Address::From(address::GatewayID(id)));
+    }
+    number_of(address::Address::To(address::GatewayID(id)))
+}
+
 // Whether the bytes are a text: UTF-8, and not empty.
 #[no_mangle]
 pub extern "C" fn johkkesir_is_text(s: &[u8]) -> bool
     ensures { λ r. ⌜ (r ≡ true) ↔ Text (now (s .entry)) ⌝ }
 {
     utf8::is_text(s)
+}
+
+// What stands in a packet area at a place: 0 nothing, 1 too few bytes for a packet, 2 a packet, whose data's start and end are left in
+// `found`; otherwise 0 and 0 are.
+#[no_mangle]
+pub extern "C" fn johkkesir_packet_at(area: &[u8], at: usize, found: &mut [u64; 2]) -> u64
+    ensures { λ r. ⌜ r ≡ kindOf (foundAt (now (area .entry)) at) ⌝ }
+    ensures { λ _. ⌜ now (found .exit) ≡ placesOf (foundAt (now (area .entry)) at) ⌝ }
+{
+    match network::packet_at(area, at) {
+        network::Found::Finished => {
+            let none = [0, 0];
+            *found = none;
+            0
+        }
+        network::Found::TooShort => {
+            let none = [0, 0];
+            *found = none;
+            1
+        }
+        network::Found::Packet { data_at, end } => {
+            let places = [data_at as u64, end as u64];
+            *found = places;
+            2
+        }
+    }
+}
+
+// The packets of an area, counted: whole ones, and 1 if it ends too short.
+#[no_mangle]
+pub extern "C" fn johkkesir_packets(area: &[u8], out: &mut [u64; 2])
+    ensures { λ _. ⌜ now (out .exit) ≡ countsOf (tallyOf (now (area .entry))) ⌝ }
+{
+    let t = network::counts(area);
+    let counts = [t.packets, t.short];
+    *out = counts;
+}
+
+// Whether a receive response may start with this status word.
+#[no_mangle]
+pub extern "C" fn johkkesir_accepted(status: u16) -> bool
+    ensures { λ r. ⌜ r ≡ acceptedOf status ⌝ }
+{
+    transport::accepted(status)
+}
+
+// How long a receive response with this status word has to be.
+#[no_mangle]
+pub extern "C" fn johkkesir_needed(status: u16) -> usize
+    ensures { λ r. ⌜ r ≡ neededOf status ⌝ }
+{
+    transport::needed(status)
+}
+
+// The packet number that its low byte stands for, after `old`.
+#[no_mangle]
+pub extern "C" fn johkkesir_interpret_packet_number_lo(lo: u8, old: u16) -> u16
+    ensures { λ r. ⌜ r ≡ interpretOf lo old ⌝ }
+{
+    let n = transport::interpret_packet_number_lo(lo, transport::PacketNumber(old));
+    n.0
 }
