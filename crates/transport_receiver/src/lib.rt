@@ -3,53 +3,64 @@
 // `step_in` is lent the arrays; `Receiver::step` is the same by value.
 ghost use mathlib.Core.Path.{_≡_};
 ghost use Prim.Native.Nat.{suc, _+_, _*_, _≤_, _<_};
-ghost use lib.ListN.{length, drop};
+ghost use lib.ListN.{length, getD, drop};
+ghost use Rattle.transport.specs.Response.{receiveReadOf};
 ghost use lib.Seq.{paste};
 ghost use Rattle.laws.specs.Bytes.{of16};
-ghost use Rattle.transport_receiver.specs.Counters.{raise};
-ghost use Rattle.transport_receiver.specs.State.{commandKey};
+ghost use Rattle.transport_receiver.specs.Counters.{raise, add};
+ghost use Rattle.transport_receiver.specs.State.{commandKey, given, frameOf, stateOf, fresh};
 ghost use Rattle.transport_receiver.specs.Types.{counterOf};
-ghost use Rattle.transport_receiver.specs.Lent.{Counted, counted, Asked, receiveRequestIn, Seated, keepIn, Noted, isLastIn, noteIn, Requested, commandRequestIn, Answered, commandResponseIn, enumerationStartIn, identityIn, versionIn, enumerationEndIn, countIn, untabledIn};
+ghost use Rattle.transport_receiver.specs.Lent.{Counted, counted, Asked, receiveRequestIn, Seated, keepIn, Noted, isLastIn, noteIn, Requested, commandRequestIn, Answered, commandResponseIn, enumerationStartIn, identityIn, versionIn, enumerationEndIn, countIn, untabledIn, Received, received, goodIn, readIn, receiveResponseIn, arrays, stepped, handledIn, stepIn, requestPayload, resetIn};
+ghost use Rattle.transport_receiver.specs.Handed.{told};
+ghost use Rattle.address.specs.Address.{isFrom, gatewayOf};
+ghost use Rattle.transport_receiver.specs.Step.{repeats, countPackets, stepOf};
+use address::Address;
 use address::GatewayID;
 use counters::*;
+use link::Type;
+use slot_counter::SlotCounter;
+use transport::PacketNumber;
+use transport::ReceiveRead;
+use transport::ReceiveResponse;
 
 pub mod counters;
 
-const RECEIVE_REQUEST: u16 = 0x0148;
+// The frame types' numbers: a `match` goes by a number.
+const RECEIVE_REQUEST: u16 = Type::RECEIVE_REQUEST.0;
 
-const RECEIVE_RESPONSE: u16 = 0x0149;
+const RECEIVE_RESPONSE: u16 = Type::RECEIVE_RESPONSE.0;
 
-const COMMAND_REQUEST: u16 = 0x0b0f;
+const COMMAND_REQUEST: u16 = Type::COMMAND_REQUEST.0;
 
-const COMMAND_RESPONSE: u16 = 0x0b10;
+const COMMAND_RESPONSE: u16 = Type::COMMAND_RESPONSE.0;
 
-const PING_REQUEST: u16 = 0x0b00;
+const PING_REQUEST: u16 = Type::PING_REQUEST.0;
 
-const PING_RESPONSE: u16 = 0x0b01;
+const PING_RESPONSE: u16 = Type::PING_RESPONSE.0;
 
-const ENUMERATION_START_REQUEST: u16 = 0x0014;
+const ENUMERATION_START_REQUEST: u16 = Type::ENUMERATION_START_REQUEST.0;
 
-const ENUMERATION_START_RESPONSE: u16 = 0x0015;
+const ENUMERATION_START_RESPONSE: u16 = Type::ENUMERATION_START_RESPONSE.0;
 
-const ENUMERATION_REQUEST: u16 = 0x0038;
+const ENUMERATION_REQUEST: u16 = Type::ENUMERATION_REQUEST.0;
 
-const ENUMERATION_RESPONSE: u16 = 0x0039;
+const ENUMERATION_RESPONSE: u16 = Type::ENUMERATION_RESPONSE.0;
 
-const ASSIGN_GATEWAY_ID_REQUEST: u16 = 0x003c;
+const ASSIGN_GATEWAY_ID_REQUEST: u16 = Type::ASSIGN_GATEWAY_ID_REQUEST.0;
 
-const ASSIGN_GATEWAY_ID_RESPONSE: u16 = 0x003d;
+const ASSIGN_GATEWAY_ID_RESPONSE: u16 = Type::ASSIGN_GATEWAY_ID_RESPONSE.0;
 
-const IDENTIFY_REQUEST: u16 = 0x003a;
+const IDENTIFY_REQUEST: u16 = Type::IDENTIFY_REQUEST.0;
 
-const IDENTIFY_RESPONSE: u16 = 0x003b;
+const IDENTIFY_RESPONSE: u16 = Type::IDENTIFY_RESPONSE.0;
 
-const VERSION_REQUEST: u16 = 0x000a;
+const VERSION_REQUEST: u16 = Type::VERSION_REQUEST.0;
 
-const VERSION_RESPONSE: u16 = 0x000b;
+const VERSION_RESPONSE: u16 = Type::VERSION_RESPONSE.0;
 
-const ENUMERATION_END_REQUEST: u16 = 0x0e02;
+const ENUMERATION_END_REQUEST: u16 = Type::ENUMERATION_END_REQUEST.0;
 
-const ENUMERATION_END_RESPONSE: u16 = 0x0006;
+const ENUMERATION_END_RESPONSE: u16 = Type::ENUMERATION_END_RESPONSE.0;
 
 // What a step answers: first the refusals of 01's table, then what an accepted frame says.
 pub enum Answer {
@@ -100,8 +111,8 @@ pub enum Answer {
     SlotCounterCaptured,
     // The packet number, the slot counter, whether the number repeats the one stored before; packets stand in the payload from `area` on.
     SlotCounterObserved {
-        number: u16,
-        slot: u16,
+        number: PacketNumber,
+        slot: SlotCounter,
         repeat: bool,
         area: usize,
     },
@@ -143,6 +154,13 @@ fn raise(counters: &mut [u64; 33], i: usize)
     ensures { λ _. ⌜ now (counters .exit) ≡ raise i (now (counters .entry)) ⌝ }
 {
     counters[i] = std::num::wrapping_add_u64(counters[i], 1);
+}
+
+fn add(counters: &mut [u64; 33], i: usize, n: u64)
+    requires { ⌜ i < 33 ⌝ }
+    ensures { λ _. ⌜ now (counters .exit) ≡ add n i (now (counters .entry)) ⌝ }
+{
+    counters[i] = std::num::wrapping_add_u64(counters[i], n);
 }
 
 // The key of a gateway's place.
@@ -192,6 +210,101 @@ fn receive_request(
         return Answer::SlotCounterCaptured;
     }
     Answer::NumbersFull
+}
+
+// Whether a response's number repeats the one stored before it.
+fn repeats(number: PacketNumber, before: PacketNumber, area: &[u8]) -> bool
+    ensures { λ r. ⌜ r ≡ repeats (number .0) (before .0) (now (area .entry)) ⌝ }
+{
+    number.0 == before.0
+}
+
+// The packets of an area, counted.
+fn count_packets(counters: &mut [u64; 33], area: &[u8])
+    ensures { λ _. ⌜ now (counters .exit) ≡ countPackets (now (area .entry)) (now (counters .entry)) ⌝ }
+{
+    let tally = network::counts(area);
+    add(counters, RECEIVE_PACKETS, tally.packets);
+    add(counters, RECEIVE_PACKET_TOO_SHORT, tally.short);
+}
+
+// A good receive response of the gateway whose number stands at place i.
+fn good_response(
+    numbers: &mut [u16; 32],
+    counters: &mut [u64; 33],
+    i: usize,
+    response: ReceiveResponse,
+    area: usize,
+    payload: &[u8],
+) -> Answer
+    requires { ⌜ (i < 32) × (area ≤ length (now payload)) ⌝ }
+    ensures { λ r. ⌜ received r (now (numbers .exit)) (now (counters .exit)) ≡ goodIn response area i (now (numbers .entry)) (now (counters .entry)) (now (payload .entry)) ⌝ }
+{
+    let packets = &payload[area..];
+    let number = response.packet_number;
+    let slot = response.slot_counter;
+    let before = PacketNumber(numbers[i]);
+    let repeat = repeats(number, before, packets);
+    let stored = number.0;
+    numbers[i] = stored;
+    raise(counters, RECEIVE_RESPONSES);
+    count_packets(counters, packets);
+    Answer::SlotCounterObserved {
+        number,
+        slot,
+        repeat,
+        area,
+    }
+}
+
+// A receive response of the gateway whose number stands at place i.
+fn known_response(
+    numbers: &mut [u16; 32],
+    counters: &mut [u64; 33],
+    i: usize,
+    payload: &[u8],
+) -> Answer
+    requires { ⌜ i < 32 ⌝ }
+    ensures { λ r. ⌜ received r (now (numbers .exit)) (now (counters .exit)) ≡ readIn (receiveReadOf (now (payload .entry)) (getD (now (numbers .entry)) i 0)) i (now (numbers .entry)) (now (counters .entry)) (now (payload .entry)) ⌝ }
+{
+    let before = PacketNumber(numbers[i]);
+    let read = ReceiveResponse::read(payload, before);
+    match read {
+        ReceiveRead::TooShort(needed) => {
+            raise(counters, INVALID_RECEIVE_RESPONSES);
+            Answer::TooShort { needed }
+        }
+        ReceiveRead::UnknownStatusType(_) => {
+            raise(counters, INVALID_RECEIVE_RESPONSES);
+            Answer::UnknownStatusType
+        }
+        ReceiveRead::Response(response, area) => {
+            good_response(numbers, counters, i, response, area, payload)
+        }
+    }
+}
+
+fn receive_response(
+    nkeys: &[u32; 32],
+    numbers: &mut [u16; 32],
+    counters: &mut [u64; 33],
+    from: bool,
+    gateway: u16,
+    payload: &[u8],
+) -> Answer
+    ensures { λ r. ⌜ received r (now (numbers .exit)) (now (counters .exit)) ≡ receiveResponseIn (now (nkeys .entry)) (now (numbers .entry)) (now (counters .entry)) from gateway (now (payload .entry)) ⌝ }
+{
+    if !from {
+        raise(counters, INVALID_RECEIVE_RESPONSES);
+        return Answer::WrongDirection;
+    }
+    let key = gateway_key(gateway);
+    let i = tables::find(nkeys, key);
+    if i < 32 {
+        return known_response(numbers, counters, i, payload);
+    }
+    raise(counters, RECEIVE_RESPONSE_FROM_UNKNOWN_GATEWAY);
+    Answer::UnknownGateway
 }
 
 // `s` into `d` at `at`.
@@ -477,4 +590,217 @@ fn untabled(counters: &mut [u64; 33], from: bool, gateway: u16, kind: u16, paylo
         return enumeration_end_response(counters, from);
     }
     count(counters, kind)
+}
+
+// A frame that 12, 13 and 32 do not refuse, by its type.
+fn handled(
+    nkeys: &mut [u32; 32],
+    numbers: &mut [u16; 32],
+    skeys: &mut [u32; 32],
+    sequences: &mut [u8; 32],
+    ckeys: &mut [u32; 64],
+    ctypes: &mut [u8; 64],
+    clengths: &mut [u8; 64],
+    cpayloads: &mut [u8; 15680],
+    counters: &mut [u64; 33],
+    from: bool,
+    gateway: u16,
+    kind: u16,
+    payload: &[u8],
+) -> Answer
+    requires { ⌜ length (now payload) ≤ 250 ⌝ }
+    ensures { λ r. ⌜ stepped r (arrays (now (nkeys .exit)) (now (numbers .exit)) (now (skeys .exit)) (now (sequences .exit)) (now (ckeys .exit)) (now (ctypes .exit)) (now (clengths .exit)) (now (cpayloads .exit)) (now (counters .exit))) ≡ handledIn (arrays (now (nkeys .entry)) (now (numbers .entry)) (now (skeys .entry)) (now (sequences .entry)) (now (ckeys .entry)) (now (ctypes .entry)) (now (clengths .entry)) (now (cpayloads .entry)) (now (counters .entry))) (given from gateway kind (now (payload .entry))) ⌝ }
+{
+    if kind == RECEIVE_REQUEST {
+        return receive_request(nkeys, numbers, counters, from, gateway, payload);
+    }
+    if kind == RECEIVE_RESPONSE {
+        return receive_response(nkeys, numbers, counters, from, gateway, payload);
+    }
+    if kind == COMMAND_REQUEST {
+        return command_request(
+            skeys,
+            sequences,
+            ckeys,
+            ctypes,
+            clengths,
+            cpayloads,
+            counters,
+            from,
+            gateway,
+            payload,
+        );
+    }
+    if kind == COMMAND_RESPONSE {
+        return command_response(ckeys, ctypes, clengths, counters, from, gateway, payload);
+    }
+    untabled(counters, from, gateway, kind, payload)
+}
+
+fn is_from(address: Address) -> bool
+    ensures { λ r. ⌜ r ≡ isFrom address ⌝ }
+{
+    match address {
+        Address::From(_) => true,
+        Address::To(_) => false,
+    }
+}
+
+fn gateway_of(address: Address) -> u16
+    ensures { λ r. ⌜ r ≡ gatewayOf address ⌝ }
+{
+    match address {
+        Address::From(id) => id.0,
+        Address::To(id) => id.0,
+    }
+}
+
+// One frame, over a state that is lent: for a loop that keeps the arrays in locals.
+pub fn step_in(
+    nkeys: &mut [u32; 32],
+    numbers: &mut [u16; 32],
+    skeys: &mut [u32; 32],
+    sequences: &mut [u8; 32],
+    ckeys: &mut [u32; 64],
+    ctypes: &mut [u8; 64],
+    clengths: &mut [u8; 64],
+    cpayloads: &mut [u8; 15680],
+    counters: &mut [u64; 33],
+    address: Address,
+    kind: Type,
+    payload: &[u8],
+) -> Answer
+    ensures { λ r. ⌜ stepped r (arrays (now (nkeys .exit)) (now (numbers .exit)) (now (skeys .exit)) (now (sequences .exit)) (now (ckeys .exit)) (now (ctypes .exit)) (now (clengths .exit)) (now (cpayloads .exit)) (now (counters .exit))) ≡ stepIn (arrays (now (nkeys .entry)) (now (numbers .entry)) (now (skeys .entry)) (now (sequences .entry)) (now (ckeys .entry)) (now (ctypes .entry)) (now (clengths .entry)) (now (cpayloads .entry)) (now (counters .entry))) (frameOf address kind (now (payload .entry))) ⌝ }
+{
+    if tables::over(ckeys, clengths, 245) {
+        return Answer::OverLimit;
+    }
+    let gateway = gateway_of(address);
+    if 0x7fff < gateway {
+        return Answer::InvalidGatewayID;
+    }
+    if 250 < payload.len() {
+        return Answer::PayloadTooLong;
+    }
+    let from = is_from(address);
+    let number = kind.0;
+    handled(
+        nkeys,
+        numbers,
+        skeys,
+        sequences,
+        ckeys,
+        ctypes,
+        clengths,
+        cpayloads,
+        counters,
+        from,
+        gateway,
+        number,
+        payload,
+    )
+}
+
+// The request's payload of a command at a place of the pool. It stays there until the place is used again. Empty where no such place or length is.
+pub fn request_payload(cpayloads: &[u8; 15680], place: usize, length: u8) -> &[u8]
+    ensures { λ r. ⌜ now r ≡ requestPayload (now (cpayloads .entry)) place length ⌝ }
+{
+    let pool = &cpayloads[..];
+    let size = length as usize;
+    if 64 <= place {
+        return &pool[0..0];
+    }
+    if 245 < size {
+        return &pool[0..0];
+    }
+    let start = place * 245;
+    let end = start + size;
+    &pool[start..end]
+}
+
+// What a reset of the counters gives: the state, and whether 12 refuses it.
+pub struct WasReset {
+    pub receiver: Receiver,
+    pub over: bool,
+}
+
+impl Receiver {
+    // A fresh receiver: every place free, every counter 0.
+    pub fn new() -> Self
+        ensures { λ r. ⌜ r ≡ fresh ⌝ }
+    {
+        Self {
+            nkeys: [0; 32],
+            numbers: [0; 32],
+            skeys: [0; 32],
+            sequences: [0; 32],
+            ckeys: [0; 64],
+            ctypes: [0; 64],
+            clengths: [0; 64],
+            cpayloads: [0; 15680],
+            counters: [0; 33],
+        }
+    }
+
+    // One frame: `step_in`, by value.
+    pub fn step(self, address: Address, kind: Type, payload: &[u8]) -> Stepped
+        ensures exactly { λ r. ⌜ r ≡ stepIn self (frameOf address kind (now (payload .entry))) ⌝ }
+        ensures means { λ r. ⌜ told (frameOf address kind (now (payload .entry))) r ≡ stepOf (stateOf self) (frameOf address kind (now (payload .entry))) ⌝ }
+    {
+        let mut nkeys = self.nkeys;
+        let mut numbers = self.numbers;
+        let mut skeys = self.skeys;
+        let mut sequences = self.sequences;
+        let mut ckeys = self.ckeys;
+        let mut ctypes = self.ctypes;
+        let mut clengths = self.clengths;
+        let mut cpayloads = self.cpayloads;
+        let mut counters = self.counters;
+        let answer = step_in(
+            &mut nkeys,
+            &mut numbers,
+            &mut skeys,
+            &mut sequences,
+            &mut ckeys,
+            &mut ctypes,
+            &mut clengths,
+            &mut cpayloads,
+            &mut counters,
+            address,
+            kind,
+            payload,
+        );
+        let receiver = Receiver {
+            nkeys,
+            numbers,
+            skeys,
+            sequences,
+            ckeys,
+            ctypes,
+            clengths,
+            cpayloads,
+            counters,
+        };
+        Stepped { receiver, answer }
+    }
+
+    // The counters set to 0, and nothing else. Refused by 12, with nothing changed.
+    pub fn reset_counters(mut self) -> WasReset
+        ensures { λ r. ⌜ r ≡ resetIn self ⌝ }
+    {
+        let ckeys = self.ckeys;
+        let clengths = self.clengths;
+        if tables::over(&ckeys, &clengths, 245) {
+            return WasReset {
+                receiver: self,
+                over: true,
+            };
+        }
+        let zeros = [0u64; 33];
+        self.counters = zeros;
+        WasReset {
+            receiver: self,
+            over: false,
+        }
+    }
 }
