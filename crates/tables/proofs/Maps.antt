@@ -92,9 +92,11 @@ module _ {A : Type 0} where
         apart : (p : Place A) → holds k p ≡ true → holds j p ≡ false
         apart free h = refl
         apart (held i v) h = rw (eqb-true i k h) (ne-eqb k j (λ e. n (sym e)))
+
         none-there : (p : Place A) → isFree p ≡ true → holds j p ≡ false
         none-there free h = refl
         none-there (held i v) h = never h
+
         empty : (t : Bool) → ltb (vacancy ps) (length ps) ≡ t → holds j (getD ps (vacancy ps) free) ≡ false
         empty true e = none-there (getD ps (vacancy ps) free) (firstWith-passes isFree ps (ltb-true (vacancy ps) (length ps) e))
         empty false e = rw (List·getD-eq-default ps free (ltb-false (vacancy ps) (length ps) e))
@@ -115,8 +117,10 @@ module _ {A : Type 0} where
     where
       at : getD (stored ps k v) (seat ps k) free ≡ held k v
       at = getD-set-same ps (seat ps k) (held k v) free (seat-room ps k room)
+
       found : holder (stored ps k v) k ≡ seat ps k
       found = firstWith-is (holds k) (stored ps k v) (seat ps k) (rw at (eq-eqb k k refl)) (rw (length-set ps (seat ps k) (held k v)) (seat-room ps k room)) (λ i l. rw (getD-set-other ps (seat ps k) i (held k v) free (λ e. omega arith)) (seat-before ps k i l))
+
       same : j ≡ k → valueAt (stored ps k v) j ≡ some v
       same e = rw e (rw (found, at))
 
@@ -127,15 +131,19 @@ module _ {A : Type 0} where
       apart : (p : Place A) → (j ≡ k → ⊥) → holds k p ≡ true → holds j p ≡ false
       apart free n h = refl
       apart (held i v) n h = rw (eqb-true i k h) (ne-eqb k j (λ e. n (sym e)))
+
       other : (j ≡ k → ⊥) → holds j (getD ps (holder ps k) free) ≡ false
       other n = by (isHeld ps k) (λ t. apart (getD ps (holder ps k) free) n (holder-holds ps k t)) (λ t. rw (List·getD-eq-default ps free (ltb-false (holder ps k) (length ps) t)))
+
       gone : (i : ℕ) → holds k (getD (removed ps k) i free) ≡ false
       gone i = by (eqb i (holder ps k)) (λ e. freed (eqb-true i (holder ps k) e)) (λ e. rw (getD-set-other ps (holder ps k) i free free (eqb-false i (holder ps k) e)) (kept (eqb-false i (holder ps k) e)))
         where
           freed : i ≡ holder ps k → holds k (getD (removed ps k) i free) ≡ false
           freed e = rw e (by (isHeld ps k) (λ t. rw (getD-set-same ps (holder ps k) free free (ltb-true (holder ps k) (length ps) t))) (λ t. rw (set-out ps (holder ps k) free (ltb-false (holder ps k) (length ps) t)) (not-held ps k t (holder ps k))))
+
           kept : (i ≡ holder ps k → ⊥) → holds k (getD ps i free) ≡ false
           kept n = by (isHeld ps k) (λ t. by (holds k (getD ps i free)) (λ h. absurd (n (distinct i (holder ps k) k h (holder-holds ps k t)))) (λ h. h)) (λ t. not-held ps k t i)
+
       same : j ≡ k → valueAt (removed ps k) j ≡ none
       same e = rw e (ap valueIn (List·getD-eq-default (removed ps k) free {n = holder (removed ps k) k} (omega (arith, firstWith-none (holds k) (removed ps k) gone))))
 
@@ -145,14 +153,17 @@ module _ {A : Type 0} where
     where
       outside : stored ps k v ≡ ps → i ≡ j
       outside e = distinct i j l (rw e at a) (rw e at b)
+
       -- a place other than the seat does not hold the key
       alone : (n : ℕ) → (n ≡ seat ps k → ⊥) → holds k (getD ps n free) ≡ true → ⊥
       alone n ne h = by (isHeld ps k) (λ t. ne (rw t (distinct n (holder ps k) k h (holder-holds ps k t)))) (λ t. never (sym (not-held ps k t n) ∙ h))
+
       one : seat ps k < length ps → (m n : ℕ) → m ≡ seat ps k → (n ≡ seat ps k → ⊥) → holds l (getD (stored ps k v) m free) ≡ true → holds l (getD (stored ps k v) n free) ≡ true → ⊥
       one h m n e ne x y =
           let p : holds l (held k v) ≡ true = rw (getD-set-same ps (seat ps k) (held k v) free h) at (rw e at x) in
           let q : holds l (getD ps n free) ≡ true = rw (getD-set-other ps (seat ps k) n (held k v) free ne) at y in
           alone n ne (rw (eqb-true k l p) q)
+
       inside : seat ps k < length ps → i ≡ j
       inside h =
           by (eqb i (seat ps k))
