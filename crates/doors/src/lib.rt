@@ -9,13 +9,13 @@ ghost use lib.ListN.{length};
 ghost use Rattle.escaping.specs.Handed.{unescapeHanded, lengthHanded, escapeHanded, escapeBytes};
 ghost use Rattle.address.specs.Address.{addressOf};
 ghost use Rattle.address.specs.Handed.{idHanded, numberHanded};
+ghost use Rattle.link.specs.Handed.{encodeHanded, encodeBytes};
 ghost use Rattle.utf8.specs.Utf8.{Text};
-ghost use Rattle.network.specs.Split.{foundAt, tallyOf};
-ghost use Rattle.transport.specs.Status.{acceptedOf, neededOf};
-ghost use Rattle.transport.specs.Number.{interpretOf};
-ghost use Rattle.doors.specs.Packets.{kindOf, placesOf, countsOf};
 ghost use Rattle.doors.specs.Numbered.{numbered};
 ghost use Rattle.doors.specs.Addresses.{directed, toward};
+
+pub mod payloads;
+pub mod receiver;
 
 // The check of a slice.
 #[no_mangle]
@@ -93,15 +93,42 @@ fn number_of(a: address::Address) -> u64
     }
 }
 
+// The address From or To a gateway.
+fn address_toward(from: bool, id: u16) -> address::Address
+    ensures { λ r. ⌜ r ≡ toward from id ⌝ }
+{
+    if from {
+        return address::Address::From(address::GatewayID(id));
+    }
+    address::Address::To(address::GatewayID(id))
+}
+
 // The 16 bits of the address From or To a gateway, or 13.
 #[no_mangle]
 pub extern "C" fn johkkesir_address_number(from: bool, id: u16) -> u64
     ensures { λ r. ⌜ r ≡ numbered (numberHanded (toward from id)) ⌝ }
 {
-    if from {
-        return number_of(address::Address::From(address::GatewayID(id)));
+    number_of(address_toward(from, id))
+}
+
+// Encodes the frame From or To a gateway to the start of `out`, and gives how many bytes it wrote, or 13, 10 or 11.
+#[no_mangle]
+pub extern "C" fn johkkesir_encode(
+    from: bool,
+    id: u16,
+    kind: u16,
+    payload: &[u8],
+    out: &mut [u8],
+) -> u64
+    ensures { λ r. ⌜ r ≡ numbered (encodeHanded crcOf (toward from id) kind (now (payload .entry)) (length (now (out .entry)))) ⌝ }
+    ensures { λ _. ⌜ now (out .exit) ≡ encodeBytes crcOf (toward from id) kind (now (payload .entry)) (now (out .entry)) ⌝ }
+{
+    match link::encode(address_toward(from, id), link::Type(kind), payload, out) {
+        link::Encoded::Written(n) => n as u64,
+        link::Encoded::InvalidID => 13 << 32,
+        link::Encoded::TooLong => 10 << 32,
+        link::Encoded::NoRoom => 11 << 32,
     }
-    number_of(address::Address::To(address::GatewayID(id)))
 }
 
 // Whether the bytes are a text: UTF-8, and not empty.
@@ -110,65 +137,4 @@ pub extern "C" fn johkkesir_is_text(s: &[u8]) -> bool
     ensures { λ r. ⌜ (r ≡ true) ↔ Text (now (s .entry)) ⌝ }
 {
     utf8::is_text(s)
-}
-
-// What stands in a packet area at a place: 0 nothing, 1 too few bytes for a packet, 2 a packet, whose data's start and end are left in
-// `found`; otherwise 0 and 0 are.
-#[no_mangle]
-pub extern "C" fn johkkesir_packet_at(area: &[u8], at: usize, found: &mut [u64; 2]) -> u64
-    ensures { λ r. ⌜ r ≡ kindOf (foundAt (now (area .entry)) at) ⌝ }
-    ensures { λ _. ⌜ now (found .exit) ≡ placesOf (foundAt (now (area .entry)) at) ⌝ }
-{
-    match network::packet_at(area, at) {
-        network::Found::Finished => {
-            let none = [0, 0];
-            *found = none;
-            0
-        }
-        network::Found::TooShort => {
-            let none = [0, 0];
-            *found = none;
-            1
-        }
-        network::Found::Packet { data_at, end } => {
-            let places = [data_at as u64, end as u64];
-            *found = places;
-            2
-        }
-    }
-}
-
-// The packets of an area, counted: whole ones, and 1 if it ends too short.
-#[no_mangle]
-pub extern "C" fn johkkesir_packets(area: &[u8], out: &mut [u64; 2])
-    ensures { λ _. ⌜ now (out .exit) ≡ countsOf (tallyOf (now (area .entry))) ⌝ }
-{
-    let t = network::counts(area);
-    let counts = [t.packets, t.short];
-    *out = counts;
-}
-
-// Whether a receive response may start with this status word.
-#[no_mangle]
-pub extern "C" fn johkkesir_accepted(status: u16) -> bool
-    ensures { λ r. ⌜ r ≡ acceptedOf status ⌝ }
-{
-    transport::accepted(status)
-}
-
-// How long a receive response with this status word has to be.
-#[no_mangle]
-pub extern "C" fn johkkesir_needed(status: u16) -> usize
-    ensures { λ r. ⌜ r ≡ neededOf status ⌝ }
-{
-    transport::needed(status)
-}
-
-// The packet number that its low byte stands for, after `old`.
-#[no_mangle]
-pub extern "C" fn johkkesir_interpret_packet_number_lo(lo: u8, old: u16) -> u16
-    ensures { λ r. ⌜ r ≡ interpretOf lo old ⌝ }
-{
-    let n = transport::interpret_packet_number_lo(lo, transport::PacketNumber(old));
-    n.0
 }

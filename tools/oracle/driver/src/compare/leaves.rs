@@ -1,5 +1,6 @@
 //! The check, escapes, addresses and encode.
 use super::Run;
+use crate::oracle::Plain;
 use crate::{doors, make, oracle, show};
 use taptap::gateway::link::Address;
 
@@ -191,4 +192,65 @@ pub fn text(run: &mut Run) {
         run.same(name, &bytes, &rust, &doors::is_text);
     }
     run.done(name, count as u64);
+}
+
+/// The answer and the whole buffer after an encoding, by the Rust's encoder and 01's refusals.
+fn encoded(from: bool, id: u16, kind: u16, payload: &[u8], before: &[u8]) -> (doors::Answer, Vec<u8>) {
+    let mut after = before.to_vec();
+    if id > 0x7fff {
+        return (Err(13), after);
+    }
+    if payload.len() > 250 {
+        return (Err(10), after);
+    }
+    let wire = Plain { address: id | if from { 0x8000 } else { 0 }, kind, payload: payload.to_vec() }.encode();
+    if wire.len() > before.len() {
+        return (Err(11), after);
+    }
+    after[..wire.len()].copy_from_slice(&wire);
+    (Ok(wire.len() as u64), after)
+}
+
+fn encode_into(from: bool, id: u16, kind: u16, payload: &[u8], before: &[u8]) -> (doors::Answer, Vec<u8>) {
+    let mut out = before.to_vec();
+    let answer = doors::encode(from, id, kind, payload, &mut out);
+    (answer, out)
+}
+
+pub fn encode(run: &mut Run) {
+    let name = "encode: payloads of every length to 260, room below, at and above the exact length; every byte of the buffer";
+    let mut rng = run.part("encode");
+    let mut n = 0;
+    for len in 0..=260 {
+        for _ in 0..60 * run.scale {
+            let f = make::frame_of(&mut rng, len);
+            let from = rng.one_in(2);
+            let id = if rng.one_in(12) { f.address } else { f.address & 0x7fff };
+            let exact = f.encode().len() + if from { 0 } else { 2 };
+            let room = rng.pick(&[0, 4, exact - 3, exact - 2, exact - 1, exact, exact + 1, exact + 40, 519, 600]);
+            let before = rng.bytes(room);
+            run.same(name, &f.payload, &|s| encoded(from, id, f.kind, s, &before), &|s| encode_into(from, id, f.kind, s, &before));
+            n += 1;
+        }
+    }
+    run.done(name, n);
+
+    let name = "encode: every type, and every ID in both directions, with room to spare";
+    let mut n = 0;
+    for number in 0..=u16::MAX {
+        let before = [0x5a; 40];
+        for (from, id, kind) in [(false, 0x1201, number), (false, number, 0x0148), (true, number, 0x0149)] {
+            run.same(name, &[0x24], &|s| encoded(from, id, kind, s, &before), &|s| encode_into(from, id, kind, s, &before));
+            n += 1;
+        }
+    }
+    run.done(name, n);
+
+    let name = "encode: a longest frame, at most 519 bytes";
+    let (answer, out) = encode_into(false, 0x2424, 0x2525, &[0x7e; 250], &[0; 600]);
+    let worst = encoded(false, 0x2424, 0x2525, &[0x7e; 250], &[0; 600]);
+    if (answer, out) != worst || worst.0.is_err() || worst.0 > Ok(519) {
+        run.differ(name, &format!("the Rust {:?}, ours {answer:?}", worst.0));
+    }
+    run.done(name, 1);
 }

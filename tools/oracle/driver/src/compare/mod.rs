@@ -3,6 +3,7 @@ use crate::rng::Rng;
 use crate::{show, shrink};
 
 pub mod leaves;
+pub mod link;
 pub mod payloads;
 
 pub struct Run {

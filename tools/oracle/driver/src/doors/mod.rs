@@ -1,6 +1,8 @@
 //! The proved side, through the doors of `crates/doors`. A slice passes as its pointer and its length, an array as its pointer.
 
 
+pub mod link;
+
 extern "C" {
     fn johkkesir_crc(buffer: *const u8, len: usize) -> u16;
     fn johkkesir_unescaped_byte(code: u8) -> u64;
@@ -9,6 +11,7 @@ extern "C" {
     fn johkkesir_gateway_id(number: u16) -> u64;
     fn johkkesir_address(number: u16) -> u32;
     fn johkkesir_address_number(from: bool, id: u16) -> u64;
+    fn johkkesir_encode(from: bool, id: u16, kind: u16, payload: *const u8, len: usize, out: *mut u8, room: usize) -> u64;
     fn johkkesir_is_text(s: *const u8, len: usize) -> bool;
     fn johkkesir_packet_at(area: *const u8, len: usize, at: usize, found: *mut [u64; 2]) -> u64;
     fn johkkesir_packets(area: *const u8, len: usize, out: *mut [u64; 2]);
@@ -96,4 +99,8 @@ pub fn needed(status: u16) -> usize {
 
 pub fn interpret_packet_number_lo(lo: u8, old: u16) -> u16 {
     unsafe { johkkesir_interpret_packet_number_lo(lo, old) }
+}
+
+pub fn encode(from: bool, id: u16, kind: u16, payload: &[u8], out: &mut [u8]) -> Answer {
+    answer(unsafe { johkkesir_encode(from, id, kind, payload.as_ptr(), payload.len(), out.as_mut_ptr(), out.len()) })
 }

@@ -1,8 +1,8 @@
--- `doors::johkkesir_packet_at` hands on what `packet_at` finds, as a kind and two places. Assumes nothing.
+-- `doors::payloads::johkkesir_packet_at` hands on what `packet_at` finds, as a kind and two places. Assumes nothing.
 use mathlib.Core.Path.{_≡_, refl}
 use borrow.Author.Needs.{needs}
-use Rattle.doors.proofs.johkkesir_packet_at.Statement.{statement}
-use Rattle.doors.proofs.johkkesir_packet_at.Tie as tie
+use Rattle.doors.proofs.payloads.johkkesir_packet_at.Statement.{statement}
+use Rattle.doors.proofs.payloads.johkkesir_packet_at.Tie as tie
 
 packet-at-requires : tie.Need-packet-at-requires
 packet-at-requires c κs = search needs

@@ -1,8 +1,8 @@
--- `doors::johkkesir_packets` lays out the two counts of `counts`. Assumes nothing.
+-- `doors::payloads::johkkesir_packets` lays out the two counts of `counts`. Assumes nothing.
 use mathlib.Core.Path.{_≡_}
 use borrow.Author.Needs.{needs}
-use Rattle.doors.proofs.johkkesir_packets.Statement.{statement}
-use Rattle.doors.proofs.johkkesir_packets.Tie as tie
+use Rattle.doors.proofs.payloads.johkkesir_packets.Statement.{statement}
+use Rattle.doors.proofs.payloads.johkkesir_packets.Tie as tie
 
 counts-requires : tie.Need-counts-requires
 counts-requires c κs = search needs
