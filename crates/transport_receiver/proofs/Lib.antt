@@ -1,3 +1,4 @@
 pub mod Pool
 pub mod Read
 pub mod Refines
+pub mod Reached
