@@ -70,7 +70,7 @@ pub crcFrom-append : (xs ys : List ℕ) (crc : ℕ) → crcFrom crc (xs ++ ys) �
 crcFrom-append [] ys crc = refl
 crcFrom-append (x ∷ xs) ys crc = crcFrom-append xs ys (crcByte crc x)
 
-bit-lt : (x p : ℕ) → p < 2 ^ 16 → x % 2 * p < 2 ^ 16
+pub bit-lt : (x p : ℕ) → p < 2 ^ 16 → x % 2 * p < 2 ^ 16
 bit-lt x p h = two (x % 2) (mod-lt x (lit< tt))
   where
     two : (b : ℕ) → b < 2 → b * p < 2 ^ 16
@@ -81,7 +81,7 @@ bit-lt x p h = two (x % 2) (mod-lt x (lit< tt))
 crcBit-lt : (c : ℕ) → c < 2 ^ 16 → crcBit c < 2 ^ 16
 crcBit-lt c h = xor-lt 16 (c / 2) (c % 2 * polynomial) (omega arith) (bit-lt c polynomial (omega arith))
 
-crcBits-lt : (n c : ℕ) → c < 2 ^ 16 → crcBits n c < 2 ^ 16
+pub crcBits-lt : (n c : ℕ) → c < 2 ^ 16 → crcBits n c < 2 ^ 16
 crcBits-lt zero c h = h
 crcBits-lt (suc n) c h = crcBits-lt n (crcBit c) (crcBit-lt c h)
 

@@ -2,19 +2,19 @@
 use mathlib.Core.Path.{_≡_, refl, sym, ap, ap₂, _∙_, subst}
 use mathlib.Core.List.{List, [], _∷_, _++_}
 use Prim.Native.Nat.{ℕ, zero, suc, _+_, _-_, _*_, _/_, _%_, _^_, _<_, _≤_}
-use native.Mathlib.Nat.{zero-lt-suc, add-zero, zero-add, suc-add, add-suc, add-comm, add-assoc, mul-comm, mul-assoc, add-mul, suc-mul, one-mul, mul-one, mod-eq-of-lt, mod-lt, mul-div-cancel, mul-mod-left, div-eq-of-lt}
+use native.Mathlib.Nat.{zero-lt-suc, add-zero, zero-add, suc-add, add-suc, add-comm, add-assoc, mul-comm, mul-assoc, add-mul, suc-mul, mul-one, mod-eq-of-lt}
 use native.Mathlib.Omega.{arith}
-use lib.Pow.{pow-add, pow-pos, pow-mono, mod-pow-add, high}
+use lib.Pow.{pow-add, pow-mono, high}
 use lib.Bits.{bitXor, xor-comm, xor-zero-l, xor-zero-r, xor-shifted, xor-lt}
 use lib.ListN.{length, getD, take, drop, length-drop, take-append-drop}
 use lib.Seq.{drop-cons, take-add, take-all, take-length}
 use Rattle.laws.specs.Bytes.{Bytes}
-use Rattle.laws.proofs.Bits.{xor-assoc, xor-apart}
-use Rattle.laws.proofs.Linear.{linear-zero}
+use Rattle.laws.proofs.Bits.{xor-assoc}
 use Rattle.crc.specs.Crc.{crcBits, crcByte, crcFrom}
 use Rattle.crc.specs.Words.{leAt, crcWords}
 use Rattle.crc.proofs.Laws.{crcBits-above, crcFrom-append}
-use Rattle.crc.proofs.Wide.{linear-crcBits, crcBits-add, pass-sixteenth}
+use Rattle.crc.proofs.Powers.{linear-crcBits, crcBits-add, crcBits-swap, crcBits-shl, crcBits-apart, shl-mod}
+use Rattle.crc.proofs.Passing.{pass-sixteenth}
 
 -- a byte below a number, as exclusive or and as a sum
 xor-byte : (x l : ℕ) → x < 256 → bitXor x (l * 2 ^ 8) ≡ x + 256 * l
@@ -78,35 +78,6 @@ leAt-place b i k j l (suc n) e =
 -- the upper r of m + r bytes
 leAt-high : (b : List ℕ) → Bytes b → (i k m r : ℕ) → leAt b i k (m + r) / 2 ^ (m * 8) ≡ leAt b i (k + m) r
 leAt-high b hb i k m r = ap (λ (y : ℕ). y / 2 ^ (m * 8)) (leAt-add b i k m r) ∙ high (leAt b i (k + m) r) (m * 8) (leAt-lt b hb i k m)
-
--- a number moved up by k of its j + k bits
-shl-mod : (y j k : ℕ) → y * 2 ^ k % 2 ^ (j + k) ≡ y % 2 ^ j * 2 ^ k
-shl-mod y j k =
-    mod-pow-add (y * 2 ^ k) j k
-    ∙ ap₂ (λ (p q : ℕ). p % 2 ^ j * 2 ^ k + q) (mul-div-cancel y (pow-pos k)) (mul-mod-left y (2 ^ k))
-    ∙ add-zero (y % 2 ^ j * 2 ^ k)
-
--- zeros before a number change nothing
-crcBits-zeros : (n y : ℕ) → crcBits n (y * 2 ^ n) ≡ y
-crcBits-zeros n y =
-    ap (crcBits n) (sym (xor-zero-l (y * 2 ^ n)))
-    ∙ crcBits-above n 0 y
-    ∙ ap (λ (k : ℕ). bitXor k y) (linear-zero (crcBits n) (linear-crcBits n))
-    ∙ xor-zero-l y
-
-pub crcBits-shl : (y j k w : ℕ) → j + k ≡ w → crcBits w (y * 2 ^ k % 2 ^ w) ≡ crcBits j (y % 2 ^ j)
-crcBits-shl y j k w e =
-    ap (λ (n : ℕ). crcBits n (y * 2 ^ k % 2 ^ n)) (sym e)
-    ∙ ap₂ (λ (n z : ℕ). crcBits n z) (add-comm j k) (shl-mod y j k)
-    ∙ crcBits-add k j (y % 2 ^ j * 2 ^ k)
-    ∙ ap (crcBits j) (crcBits-zeros k (y % 2 ^ j))
-
--- the low j bits go through, and the rest only moves down
-crcBits-apart : (j y : ℕ) → bitXor (y / 2 ^ j) (crcBits j (y % 2 ^ j)) ≡ crcBits j y
-crcBits-apart j y = xor-comm (y / 2 ^ j) (crcBits j (y % 2 ^ j)) ∙ sym (crcBits-above j (y % 2 ^ j) (y / 2 ^ j)) ∙ ap (crcBits j) (sym (xor-apart j y))
-
-crcBits-swap : (m n c : ℕ) → crcBits m (crcBits n c) ≡ crcBits n (crcBits m c)
-crcBits-swap m n c = sym (crcBits-add n m c) ∙ ap (λ (k : ℕ). crcBits k c) (add-comm n m) ∙ crcBits-add m n c
 
 -- one word more, by `fold`
 pub crcBits-fold : (x f w : ℕ) → crcBits 64 f ≡ crcBits 128 x → crcBits 64 (bitXor w f) ≡ crcWords (crcBits 64 x) (w ∷ [])

@@ -320,8 +320,8 @@ fn word_at(b: &[u8], i: usize) -> u64
 fn fold(x: u64) -> u64
     ensures { λ r. ⌜ crcBits 64 r ≡ crcBits 128 x ⌝ }
 {
-    let twice = x ^ (x << 32);
-    let q = twice ^ (twice << 16) ^ (x << 44);
+    let u = x ^ (x << 32);
+    let q = u ^ (u << 16) ^ (u << 44);
     q ^ (q >> 20) ^ (q >> 48)
 }
 
@@ -329,11 +329,11 @@ fn fold(x: u64) -> u64
 fn settle(x: u64) -> u64
     ensures { λ r. ⌜ r ≡ crcBits 64 x ⌝ }
 {
-    let twice = x ^ (x << 32);
-    let fourth = twice ^ (twice << 16) ^ (x << 44);
-    let second = fourth ^ (fourth << 8) ^ (fourth << 22) ^ (fourth << 32);
-    let first = second ^ (second << 4) ^ (second << 11) ^ (second << 16);
-    (first >> 48) ^ (first >> 53) ^ (first >> 60)
+    let t = x ^ (x << 32);
+    let u = t ^ (t << 16) ^ (t << 44);
+    let v = u ^ (u << 8) ^ (u << 22) ^ (u << 32);
+    let q = v ^ (v << 4) ^ (v << 11) ^ (v << 16);
+    (q >> 60) ^ (q >> 53) ^ (q >> 48)
 }
 
 // Four words as one: by the eighth power, x^128 + x^96 + x^40 + 1, a word is passed on to the two after it.

@@ -7,7 +7,7 @@ use native.Mathlib.Nat.{mod-lt, add-zero, zero-mul, one-mul, pow-succ', div-lt-i
 use native.Mathlib.Omega.{arith}
 use lib.Dec.{T, eqb, eqb→eq}
 use lib.Pow.{pow-pos}
-use lib.Bits.{bitXor, xor-comm, xor-shr, xor-mod, xor-block, xor-self}
+use lib.Bits.{bitXor, xor-comm, xor-shr, xor-mod, xor-block, xor-self, xor-zero-l, xor-zero-r}
 use Rattle.laws.proofs.Bits.{bit, xor-assoc, xor-apart}
 use Rattle.laws.proofs.Table.{and-left, and-right}
 
@@ -20,6 +20,15 @@ xor-swap a b c d =
     xor-assoc a b (bitXor c d)
     ∙ ap (λ (k : ℕ). bitXor a k) (sym (xor-assoc b c d) ∙ ap (λ (k : ℕ). bitXor k d) (xor-comm b c) ∙ xor-assoc c b d)
     ∙ sym (xor-assoc a c (bitXor b d))
+
+-- what stands twice falls out
+pub xor-cancel : (a b c : ℕ) → bitXor (bitXor a b) (bitXor b c) ≡ bitXor a c
+xor-cancel a b c =
+    xor-assoc a b (bitXor b c)
+    ∙ ap (bitXor a) (sym (xor-assoc b b c) ∙ ap (λ (k : ℕ). bitXor k c) (xor-self b) ∙ xor-zero-l c)
+
+pub xor-undo : (a b : ℕ) → bitXor (bitXor a b) a ≡ b
+xor-undo a b = ap (λ (k : ℕ). bitXor k a) (xor-comm a b) ∙ xor-assoc b a a ∙ ap (bitXor b) (xor-self a) ∙ xor-zero-r b
 
 pub linear-id : Linear (λ x. x)
 linear-id a b = refl

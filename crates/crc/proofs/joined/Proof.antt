@@ -1,6 +1,6 @@
 -- `crc::joined` makes four words one: each of the first two is passed on to the two after it, and the third is folded. Assumes nothing.
 use borrow.Author.Needs.{needs}
-use Rattle.crc.proofs.Wide.{crcWords-joined}
+use Rattle.crc.proofs.Passing.{crcWords-joined}
 use Rattle.crc.proofs.joined.Statement.{statement}
 use Rattle.crc.proofs.joined.Tie as tie
 
