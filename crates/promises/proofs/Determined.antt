@@ -1,0 +1,428 @@
+-- Each public contract determines its outcome, of whatever function a caller can name. Of `payload` and `request_payload`, which hand back a part of
+-- what they are lent, it determines the bytes. The doors of the comparison are not among them. Assumes nothing.
+use mathlib.Core.Path.{_≡_, refl, sym, ap, _∙_}
+use mathlib.Core.Bool.{Bool, true, false}
+use mathlib.Core.Logic.{_↔_}
+use Rattle.promises.specs.Determined.{Determined}
+use Rattle.escaping.proofs.Answers.{handedByte-same, handedLength-same, handedWritten-same}
+use Rattle.address.proofs.Laws.{handedID-same, handedNumber-same, handedBytes-same}
+use Rattle.link.proofs.Answers.{handed-same}
+use Rattle.event_record.proofs.Told.{handed-apart}
+use Prim.Native.Nat.{ℕ}
+use mathlib.Core.List.{List}
+use lib.ListN.{drop}
+use lib.Seq.{paste}
+use denote.Ref.{now, at-last}
+use contract.Lifetimes.{Lfts}
+use denote.Triple.Clauses.{Lasts, atExit}
+use borrow.Fn.Kinds.{Dens, resT, endedOf}
+use Rattle.crc.specs.Crc.{crcOf}
+use Rattle.network.specs.declared.DSN.{DSN}
+use Rattle.network.specs.declared.NodeAddress.{NodeAddress}
+use Rattle.slot_counter.specs.declared.SlotCounter.{SlotCounter}
+use Rattle.transport.specs.declared.PacketNumber.{PacketNumber}
+use Rattle.transport_receiver.specs.declared.Stepped.{Stepped}
+use Rattle.promises.proofs.Ledgers.{ledgered-once}
+use Rattle.crc.proofs.crc.Kinds as crc·crc·kinds
+use Rattle.crc.proofs.crc.Reads as crc·crc·reads
+use Rattle.escaping.proofs.escaped_length.Kinds as escaping·escaped-length·kinds
+use Rattle.escaping.proofs.escaped_length.Reads as escaping·escaped-length·reads
+use Rattle.escaping.proofs.escape.Kinds as escaping·escape·kinds
+use Rattle.escaping.proofs.escape.Reads as escaping·escape·reads
+use Rattle.escaping.proofs.unescaped_byte.Kinds as escaping·unescaped-byte·kinds
+use Rattle.escaping.proofs.unescaped_byte.Reads as escaping·unescaped-byte·reads
+use Rattle.address.proofs.GatewayID.new.Kinds as address·GatewayID·new·kinds
+use Rattle.address.proofs.GatewayID.new.Reads as address·GatewayID·new·reads
+use Rattle.address.proofs.Address.from_u16.Kinds as address·Address·from-u16·kinds
+use Rattle.address.proofs.Address.from_u16.Reads as address·Address·from-u16·reads
+use Rattle.address.proofs.Address.to_u16.Kinds as address·Address·to-u16·kinds
+use Rattle.address.proofs.Address.to_u16.Reads as address·Address·to-u16·reads
+use Rattle.address.proofs.Address.from_be_bytes.Kinds as address·Address·from-be-bytes·kinds
+use Rattle.address.proofs.Address.from_be_bytes.Reads as address·Address·from-be-bytes·reads
+use Rattle.address.proofs.Address.to_be_bytes.Kinds as address·Address·to-be-bytes·kinds
+use Rattle.address.proofs.Address.to_be_bytes.Reads as address·Address·to-be-bytes·reads
+use Rattle.link.proofs.encode.Kinds as link·encode·kinds
+use Rattle.link.proofs.encode.Reads as link·encode·reads
+use Rattle.link_receive.proofs.open_frames.Kinds as link-receive·open-frames·kinds
+use Rattle.link_receive.proofs.open_frames.Reads as link-receive·open-frames·reads
+use Rattle.link_receive.proofs.Receiver.new.Kinds as link-receive·Receiver·new·kinds
+use Rattle.link_receive.proofs.Receiver.new.Reads as link-receive·Receiver·new·reads
+use Rattle.link_receive.proofs.Receiver.push_u8.Kinds as link-receive·Receiver·push-u8·kinds
+use Rattle.link_receive.proofs.Receiver.push_u8.Reads as link-receive·Receiver·push-u8·reads
+use Rattle.link_receive.proofs.Receiver.reset_counters.Kinds as link-receive·Receiver·reset-counters·kinds
+use Rattle.link_receive.proofs.Receiver.reset_counters.Reads as link-receive·Receiver·reset-counters·reads
+use Rattle.link_receive.proofs.Receiver.feed.Kinds as link-receive·Receiver·feed·kinds
+use Rattle.link_receive.proofs.Receiver.feed.Reads as link-receive·Receiver·feed·reads
+use Rattle.link_receive.proofs.Receiver.extend_from_slice.Kinds as link-receive·Receiver·extend-from-slice·kinds
+use Rattle.link_receive.proofs.Receiver.extend_from_slice.Reads as link-receive·Receiver·extend-from-slice·reads
+use Rattle.books.proofs.told.Kinds as books·told·kinds
+use Rattle.books.proofs.told.Reads as books·told·reads
+use Rattle.books.proofs.absorb.Kinds as books·absorb·kinds
+use Rattle.books.proofs.absorb.Reads as books·absorb·reads
+use Rattle.books.proofs.give.Kinds as books·give·kinds
+use Rattle.books.proofs.give.Reads as books·give·reads
+use Rattle.books.proofs.ledger_of.Kinds as books·ledger-of·kinds
+use Rattle.books.proofs.ledger_of.Reads as books·ledger-of·reads
+use Rattle.utf8.proofs.is_utf8.Kinds as utf8·is-utf8·kinds
+use Rattle.utf8.proofs.is_utf8.Reads as utf8·is-utf8·reads
+use Rattle.utf8.proofs.is_text.Kinds as utf8·is-text·kinds
+use Rattle.utf8.proofs.is_text.Reads as utf8·is-text·reads
+use Rattle.network.proofs.DSN.add.Kinds as network·DSN·add·kinds
+use Rattle.network.proofs.DSN.add.Reads as network·DSN·add·reads
+use Rattle.network.proofs.NodeID.try_from.Kinds as network·NodeID·try-from·kinds
+use Rattle.network.proofs.NodeID.try_from.Reads as network·NodeID·try-from·reads
+use Rattle.network.proofs.NodeID.get.Kinds as network·NodeID·get·kinds
+use Rattle.network.proofs.NodeID.get.Reads as network·NodeID·get·reads
+use Rattle.network.proofs.NodeID.successor.Kinds as network·NodeID·successor·kinds
+use Rattle.network.proofs.NodeID.successor.Reads as network·NodeID·successor·reads
+use Rattle.network.proofs.NodeAddress.node.Kinds as network·NodeAddress·node·kinds
+use Rattle.network.proofs.NodeAddress.node.Reads as network·NodeAddress·node·reads
+use Rattle.network.proofs.NodeAddress.from_node.Kinds as network·NodeAddress·from-node·kinds
+use Rattle.network.proofs.NodeAddress.from_node.Reads as network·NodeAddress·from-node·reads
+use Rattle.network.proofs.NodeAddress.from_id.Kinds as network·NodeAddress·from-id·kinds
+use Rattle.network.proofs.NodeAddress.from_id.Reads as network·NodeAddress·from-id·reads
+use Rattle.network.proofs.ReceivedPacketHeader.read.Kinds as network·ReceivedPacketHeader·read·kinds
+use Rattle.network.proofs.ReceivedPacketHeader.read.Reads as network·ReceivedPacketHeader·read·reads
+use Rattle.network.proofs.packet_at.Kinds as network·packet-at·kinds
+use Rattle.network.proofs.packet_at.Reads as network·packet-at·reads
+use Rattle.network.proofs.counts.Kinds as network·counts·kinds
+use Rattle.network.proofs.counts.Reads as network·counts·reads
+use Rattle.slot_counter.proofs.SlotNumber.try_from.Kinds as slot-counter·SlotNumber·try-from·kinds
+use Rattle.slot_counter.proofs.SlotNumber.try_from.Reads as slot-counter·SlotNumber·try-from·reads
+use Rattle.slot_counter.proofs.SlotNumber.get.Kinds as slot-counter·SlotNumber·get·kinds
+use Rattle.slot_counter.proofs.SlotNumber.get.Reads as slot-counter·SlotNumber·get·reads
+use Rattle.slot_counter.proofs.SlotEpoch.place.Kinds as slot-counter·SlotEpoch·place·kinds
+use Rattle.slot_counter.proofs.SlotEpoch.place.Reads as slot-counter·SlotEpoch·place·reads
+use Rattle.slot_counter.proofs.SlotEpoch.add.Kinds as slot-counter·SlotEpoch·add·kinds
+use Rattle.slot_counter.proofs.SlotEpoch.add.Reads as slot-counter·SlotEpoch·add·reads
+use Rattle.slot_counter.proofs.SlotEpoch.add_assign.Kinds as slot-counter·SlotEpoch·add-assign·kinds
+use Rattle.slot_counter.proofs.SlotEpoch.add_assign.Reads as slot-counter·SlotEpoch·add-assign·reads
+use Rattle.slot_counter.proofs.SlotCounter.new.Kinds as slot-counter·SlotCounter·new·kinds
+use Rattle.slot_counter.proofs.SlotCounter.new.Reads as slot-counter·SlotCounter·new·reads
+use Rattle.slot_counter.proofs.SlotCounter.from_be_bytes.Kinds as slot-counter·SlotCounter·from-be-bytes·kinds
+use Rattle.slot_counter.proofs.SlotCounter.from_be_bytes.Reads as slot-counter·SlotCounter·from-be-bytes·reads
+use Rattle.slot_counter.proofs.SlotCounter.epoch.Kinds as slot-counter·SlotCounter·epoch·kinds
+use Rattle.slot_counter.proofs.SlotCounter.epoch.Reads as slot-counter·SlotCounter·epoch·reads
+use Rattle.slot_counter.proofs.SlotCounter.slot_number.Kinds as slot-counter·SlotCounter·slot-number·kinds
+use Rattle.slot_counter.proofs.SlotCounter.slot_number.Reads as slot-counter·SlotCounter·slot-number·reads
+use Rattle.slot_counter.proofs.SlotCounter.slots_since.Kinds as slot-counter·SlotCounter·slots-since·kinds
+use Rattle.slot_counter.proofs.SlotCounter.slots_since.Reads as slot-counter·SlotCounter·slots-since·reads
+use Rattle.transport.proofs.accepted.Kinds as transport·accepted·kinds
+use Rattle.transport.proofs.accepted.Reads as transport·accepted·reads
+use Rattle.transport.proofs.needed.Kinds as transport·needed·kinds
+use Rattle.transport.proofs.needed.Reads as transport·needed·reads
+use Rattle.transport.proofs.interpret_packet_number_lo.Kinds as transport·interpret-packet-number-lo·kinds
+use Rattle.transport.proofs.interpret_packet_number_lo.Reads as transport·interpret-packet-number-lo·reads
+use Rattle.transport.proofs.CommandRequest.read.Kinds as transport·CommandRequest·read·kinds
+use Rattle.transport.proofs.CommandRequest.read.Reads as transport·CommandRequest·read·reads
+use Rattle.transport.proofs.CommandResponse.read.Kinds as transport·CommandResponse·read·kinds
+use Rattle.transport.proofs.CommandResponse.read.Reads as transport·CommandResponse·read·reads
+use Rattle.transport.proofs.ReceiveRequest.read.Kinds as transport·ReceiveRequest·read·kinds
+use Rattle.transport.proofs.ReceiveRequest.read.Reads as transport·ReceiveRequest·read·reads
+use Rattle.transport.proofs.IdentifyResponse.read.Kinds as transport·IdentifyResponse·read·kinds
+use Rattle.transport.proofs.IdentifyResponse.read.Reads as transport·IdentifyResponse·read·reads
+use Rattle.transport.proofs.IdentifyResponse.gateway_id.Kinds as transport·IdentifyResponse·gateway-id·kinds
+use Rattle.transport.proofs.IdentifyResponse.gateway_id.Reads as transport·IdentifyResponse·gateway-id·reads
+use Rattle.transport.proofs.EnumerationStartRequest.read.Kinds as transport·EnumerationStartRequest·read·kinds
+use Rattle.transport.proofs.EnumerationStartRequest.read.Reads as transport·EnumerationStartRequest·read·reads
+use Rattle.transport.proofs.EnumerationStartRequest.enumeration_gateway_id.Kinds as transport·EnumerationStartRequest·enumeration-gateway-id·kinds
+use Rattle.transport.proofs.EnumerationStartRequest.enumeration_gateway_id.Reads as transport·EnumerationStartRequest·enumeration-gateway-id·reads
+use Rattle.transport.proofs.ReceiveResponse.read.Kinds as transport·ReceiveResponse·read·kinds
+use Rattle.transport.proofs.ReceiveResponse.read.Reads as transport·ReceiveResponse·read·reads
+use Rattle.tables.proofs.find.Kinds as tables·find·kinds
+use Rattle.tables.proofs.find.Reads as tables·find·reads
+use Rattle.tables.proofs.seat.Kinds as tables·seat·kinds
+use Rattle.tables.proofs.seat.Reads as tables·seat·reads
+use Rattle.tables.proofs.over.Kinds as tables·over·kinds
+use Rattle.tables.proofs.over.Reads as tables·over·reads
+use Rattle.transport_receiver.proofs.Receiver.new.Kinds as transport-receiver·Receiver·new·kinds
+use Rattle.transport_receiver.proofs.Receiver.new.Reads as transport-receiver·Receiver·new·reads
+use Rattle.transport_receiver.proofs.Receiver.step.Kinds as transport-receiver·Receiver·step·kinds
+use Rattle.transport_receiver.proofs.Receiver.step.Reads as transport-receiver·Receiver·step·reads
+use Rattle.transport_receiver.proofs.Receiver.reset_counters.Kinds as transport-receiver·Receiver·reset-counters·kinds
+use Rattle.transport_receiver.proofs.Receiver.reset_counters.Reads as transport-receiver·Receiver·reset-counters·reads
+use Rattle.transport_receiver.proofs.step_in.Kinds as transport-receiver·step-in·kinds
+use Rattle.transport_receiver.proofs.step_in.Reads as transport-receiver·step-in·reads
+use Rattle.event_record.proofs.sound.Kinds as event-record·sound·kinds
+use Rattle.event_record.proofs.sound.Reads as event-record·sound·reads
+use Rattle.event_record.proofs.sound_at.Kinds as event-record·sound-at·kinds
+use Rattle.event_record.proofs.sound_at.Reads as event-record·sound-at·reads
+use Rattle.event_record.proofs.enumeration_started.Kinds as event-record·enumeration-started·kinds
+use Rattle.event_record.proofs.enumeration_started.Reads as event-record·enumeration-started·reads
+use Rattle.event_record.proofs.identity.Kinds as event-record·identity·kinds
+use Rattle.event_record.proofs.identity.Reads as event-record·identity·reads
+use Rattle.event_record.proofs.version.Kinds as event-record·version·kinds
+use Rattle.event_record.proofs.version.Reads as event-record·version·reads
+use Rattle.event_record.proofs.enumeration_ended.Kinds as event-record·enumeration-ended·kinds
+use Rattle.event_record.proofs.enumeration_ended.Reads as event-record·enumeration-ended·reads
+use Rattle.event_record.proofs.slot_captured.Kinds as event-record·slot-captured·kinds
+use Rattle.event_record.proofs.slot_captured.Reads as event-record·slot-captured·reads
+use Rattle.event_record.proofs.slot_counter.Kinds as event-record·slot-counter·kinds
+use Rattle.event_record.proofs.slot_counter.Reads as event-record·slot-counter·reads
+use Rattle.event_record.proofs.packet.Kinds as event-record·packet·kinds
+use Rattle.event_record.proofs.packet.Reads as event-record·packet·reads
+use Rattle.event_record.proofs.command.Kinds as event-record·command·kinds
+use Rattle.event_record.proofs.command.Reads as event-record·command·reads
+use Rattle.runs.proofs.is.Kinds as runs·is·kinds
+use Rattle.runs.proofs.is.Reads as runs·is·reads
+use Rattle.runs.proofs.run.Kinds as runs·run·kinds
+use Rattle.runs.proofs.run.Reads as runs·run·reads
+use Rattle.runs.proofs.copy_run.Kinds as runs·copy-run·kinds
+use Rattle.runs.proofs.copy_run.Reads as runs·copy-run·reads
+use Rattle.link_receive.proofs.payload.Kinds as link-receive·payload·kinds
+use Rattle.link_receive.proofs.payload.Reads as link-receive·payload·reads
+use Rattle.transport_receiver.proofs.request_payload.Kinds as transport-receiver·request-payload·kinds
+use Rattle.transport_receiver.proofs.request_payload.Reads as transport-receiver·request-payload·reads
+
+-- a kind and its number
+abbrev dsn : ℕ → DSN
+dsn n = record { 0 = n }
+
+abbrev nodeAddress : ℕ → NodeAddress
+nodeAddress n = record { 0 = n }
+
+abbrev slotCounter : ℕ → SlotCounter
+slotCounter n = record { 0 = n }
+
+abbrev packetNumber : ℕ → PacketNumber
+packetNumber n = record { 0 = n }
+
+-- two answers true under one condition are one
+both : {U : Type 0} (x y : Bool) → (x ≡ true) ↔ U → (y ≡ true) ↔ U → x ≡ y
+both true true p q = refl
+both false false p q = refl
+both true false p q = sym (q .1 (p .0 refl))
+both false true p q = p .1 (q .0 refl)
+
+pub crc·crc : Determined 1 crc·crc·kinds.ps crc·crc·kinds.r crc·crc·reads.Learnt
+crc·crc κs a x y u v p q = (p ∙ sym q, refl)
+
+pub escaping·escaped-length : Determined 1 escaping·escaped-length·kinds.ps escaping·escaped-length·kinds.r escaping·escaped-length·reads.Learnt
+escaping·escaped-length κs a x y u v p q = (handedLength-same x y (p ∙ sym q), refl)
+
+pub escaping·escape : Determined 2 escaping·escape·kinds.ps escaping·escape·kinds.r escaping·escape·reads.Learnt
+escaping·escape κs a x y u v p q = (handedWritten-same x y (p .0 ∙ sym (q .0)), cc)
+
+pub escaping·unescaped-byte : Determined 0 escaping·unescaped-byte·kinds.ps escaping·unescaped-byte·kinds.r escaping·unescaped-byte·reads.Learnt
+escaping·unescaped-byte κs a x y u v p q = (handedByte-same x y (p ∙ sym q), refl)
+
+pub address·GatewayID·new : Determined 0 address·GatewayID·new·kinds.ps address·GatewayID·new·kinds.r address·GatewayID·new·reads.Learnt
+address·GatewayID·new κs a x y u v p q = (handedID-same x y (p ∙ sym q), refl)
+
+pub address·Address·from-u16 : Determined 0 address·Address·from-u16·kinds.ps address·Address·from-u16·kinds.r address·Address·from-u16·reads.Learnt
+address·Address·from-u16 κs a x y u v p q = (p ∙ sym q, refl)
+
+pub address·Address·to-u16 : Determined 0 address·Address·to-u16·kinds.ps address·Address·to-u16·kinds.r address·Address·to-u16·reads.Learnt
+address·Address·to-u16 κs a x y u v p q = (handedNumber-same x y (p ∙ sym q), refl)
+
+pub address·Address·from-be-bytes : Determined 0 address·Address·from-be-bytes·kinds.ps address·Address·from-be-bytes·kinds.r address·Address·from-be-bytes·reads.Learnt
+address·Address·from-be-bytes κs a x y u v p q = (p ∙ sym q, refl)
+
+pub address·Address·to-be-bytes : Determined 0 address·Address·to-be-bytes·kinds.ps address·Address·to-be-bytes·kinds.r address·Address·to-be-bytes·reads.Learnt
+address·Address·to-be-bytes κs a x y u v p q = (handedBytes-same x y (p ∙ sym q), refl)
+
+pub link·encode : Determined 2 link·encode·kinds.ps link·encode·kinds.r link·encode·reads.Learnt
+link·encode κs a x y u v p q = (handed-same x y (p .0 ∙ sym (q .0)), cc)
+
+pub link-receive·open-frames : Determined 0 link-receive·open-frames·kinds.ps link-receive·open-frames·kinds.r link-receive·open-frames·reads.Learnt
+link-receive·open-frames κs a x y u v p q = (p ∙ sym q, refl)
+
+pub link-receive·Receiver·new : Determined 0 link-receive·Receiver·new·kinds.ps link-receive·Receiver·new·kinds.r link-receive·Receiver·new·reads.Learnt
+link-receive·Receiver·new κs a x y u v p q = (p ∙ sym q, refl)
+
+pub link-receive·Receiver·push-u8 : Determined 0 link-receive·Receiver·push-u8·kinds.ps link-receive·Receiver·push-u8·kinds.r link-receive·Receiver·push-u8·reads.Learnt
+link-receive·Receiver·push-u8 κs a x y u v p q = (p ∙ sym q, refl)
+
+pub link-receive·Receiver·reset-counters : Determined 0 link-receive·Receiver·reset-counters·kinds.ps link-receive·Receiver·reset-counters·kinds.r link-receive·Receiver·reset-counters·reads.Learnt
+link-receive·Receiver·reset-counters κs a x y u v p q = (p ∙ sym q, refl)
+
+pub link-receive·Receiver·feed : Determined 1 link-receive·Receiver·feed·kinds.ps link-receive·Receiver·feed·kinds.r link-receive·Receiver·feed·reads.Learnt
+link-receive·Receiver·feed κs a x y u v p q = (p ∙ sym q, refl)
+
+pub link-receive·Receiver·extend-from-slice : Determined 1 link-receive·Receiver·extend-from-slice·kinds.ps link-receive·Receiver·extend-from-slice·kinds.r link-receive·Receiver·extend-from-slice·reads.Learnt
+link-receive·Receiver·extend-from-slice κs a x y u v p q = (p ∙ sym q, refl)
+
+pub books·told : Determined 0 books·told·kinds.ps books·told·kinds.r books·told·reads.Learnt
+books·told κs a x y u v p q = (p .exactly ∙ sym (q .exactly), refl)
+
+pub books·absorb : Determined 1 books·absorb·kinds.ps books·absorb·kinds.r books·absorb·reads.Learnt
+books·absorb κs a x y u v p q = (p .exactly ∙ sym (q .exactly), refl)
+
+pub books·give : Determined 1 books·give·kinds.ps books·give·kinds.r books·give·reads.Learnt
+books·give κs a x y u v p q = (p .exactly ∙ sym (q .exactly), refl)
+
+pub books·ledger-of : Determined 1 books·ledger-of·kinds.ps books·ledger-of·kinds.r books·ledger-of·reads.Learnt
+books·ledger-of κs a x y u v p q = (ledgered-once crcOf (now (a .0)) x y p q, refl)
+
+pub utf8·is-utf8 : Determined 1 utf8·is-utf8·kinds.ps utf8·is-utf8·kinds.r utf8·is-utf8·reads.Learnt
+utf8·is-utf8 κs a x y u v p q = (both x y p q, refl)
+
+pub utf8·is-text : Determined 1 utf8·is-text·kinds.ps utf8·is-text·kinds.r utf8·is-text·reads.Learnt
+utf8·is-text κs a x y u v p q = (both x y p q, refl)
+
+pub network·DSN·add : Determined 0 network·DSN·add·kinds.ps network·DSN·add·kinds.r network·DSN·add·reads.Learnt
+network·DSN·add κs a x y u v p q = (ap dsn (p ∙ sym q), refl)
+
+pub network·NodeID·try-from : Determined 0 network·NodeID·try-from·kinds.ps network·NodeID·try-from·kinds.r network·NodeID·try-from·reads.Learnt
+network·NodeID·try-from κs a x y u v p q = (p ∙ sym q, refl)
+
+pub network·NodeID·get : Determined 0 network·NodeID·get·kinds.ps network·NodeID·get·kinds.r network·NodeID·get·reads.Learnt
+network·NodeID·get κs a x y u v p q = (p ∙ sym q, refl)
+
+pub network·NodeID·successor : Determined 0 network·NodeID·successor·kinds.ps network·NodeID·successor·kinds.r network·NodeID·successor·reads.Learnt
+network·NodeID·successor κs a x y u v p q = (p ∙ sym q, refl)
+
+pub network·NodeAddress·node : Determined 0 network·NodeAddress·node·kinds.ps network·NodeAddress·node·kinds.r network·NodeAddress·node·reads.Learnt
+network·NodeAddress·node κs a x y u v p q = (p ∙ sym q, refl)
+
+pub network·NodeAddress·from-node : Determined 0 network·NodeAddress·from-node·kinds.ps network·NodeAddress·from-node·kinds.r network·NodeAddress·from-node·reads.Learnt
+network·NodeAddress·from-node κs a x y u v p q = (ap nodeAddress (p ∙ sym q), refl)
+
+pub network·NodeAddress·from-id : Determined 0 network·NodeAddress·from-id·kinds.ps network·NodeAddress·from-id·kinds.r network·NodeAddress·from-id·reads.Learnt
+network·NodeAddress·from-id κs a x y u v p q = (ap nodeAddress (p ∙ sym q), refl)
+
+pub network·ReceivedPacketHeader·read : Determined 1 network·ReceivedPacketHeader·read·kinds.ps network·ReceivedPacketHeader·read·kinds.r network·ReceivedPacketHeader·read·reads.Learnt
+network·ReceivedPacketHeader·read κs a x y u v p q = (p ∙ sym q, refl)
+
+pub network·packet-at : Determined 1 network·packet-at·kinds.ps network·packet-at·kinds.r network·packet-at·reads.Learnt
+network·packet-at κs a x y u v p q = (p ∙ sym q, refl)
+
+pub network·counts : Determined 1 network·counts·kinds.ps network·counts·kinds.r network·counts·reads.Learnt
+network·counts κs a x y u v p q = (p ∙ sym q, refl)
+
+pub slot-counter·SlotNumber·try-from : Determined 0 slot-counter·SlotNumber·try-from·kinds.ps slot-counter·SlotNumber·try-from·kinds.r slot-counter·SlotNumber·try-from·reads.Learnt
+slot-counter·SlotNumber·try-from κs a x y u v p q = (p ∙ sym q, refl)
+
+pub slot-counter·SlotNumber·get : Determined 0 slot-counter·SlotNumber·get·kinds.ps slot-counter·SlotNumber·get·kinds.r slot-counter·SlotNumber·get·reads.Learnt
+slot-counter·SlotNumber·get κs a x y u v p q = (p ∙ sym q, refl)
+
+pub slot-counter·SlotEpoch·place : Determined 0 slot-counter·SlotEpoch·place·kinds.ps slot-counter·SlotEpoch·place·kinds.r slot-counter·SlotEpoch·place·reads.Learnt
+slot-counter·SlotEpoch·place κs a x y u v p q = (p ∙ sym q, refl)
+
+pub slot-counter·SlotEpoch·add : Determined 0 slot-counter·SlotEpoch·add·kinds.ps slot-counter·SlotEpoch·add·kinds.r slot-counter·SlotEpoch·add·reads.Learnt
+slot-counter·SlotEpoch·add κs a x y u v p q = (p ∙ sym q, refl)
+
+pub slot-counter·SlotEpoch·add-assign : Determined 0 slot-counter·SlotEpoch·add-assign·kinds.ps slot-counter·SlotEpoch·add-assign·kinds.r slot-counter·SlotEpoch·add-assign·reads.Learnt
+slot-counter·SlotEpoch·add-assign κs a x y u v p q = (p ∙ sym q, refl)
+
+pub slot-counter·SlotCounter·new : Determined 0 slot-counter·SlotCounter·new·kinds.ps slot-counter·SlotCounter·new·kinds.r slot-counter·SlotCounter·new·reads.Learnt
+slot-counter·SlotCounter·new κs a x y u v p q = (ap slotCounter (p ∙ sym q), refl)
+
+pub slot-counter·SlotCounter·from-be-bytes : Determined 0 slot-counter·SlotCounter·from-be-bytes·kinds.ps slot-counter·SlotCounter·from-be-bytes·kinds.r slot-counter·SlotCounter·from-be-bytes·reads.Learnt
+slot-counter·SlotCounter·from-be-bytes κs a x y u v p q = (ap slotCounter (p ∙ sym q), refl)
+
+pub slot-counter·SlotCounter·epoch : Determined 0 slot-counter·SlotCounter·epoch·kinds.ps slot-counter·SlotCounter·epoch·kinds.r slot-counter·SlotCounter·epoch·reads.Learnt
+slot-counter·SlotCounter·epoch κs a x y u v p q = (p ∙ sym q, refl)
+
+pub slot-counter·SlotCounter·slot-number : Determined 0 slot-counter·SlotCounter·slot-number·kinds.ps slot-counter·SlotCounter·slot-number·kinds.r slot-counter·SlotCounter·slot-number·reads.Learnt
+slot-counter·SlotCounter·slot-number κs a x y u v p q = (p ∙ sym q, refl)
+
+pub slot-counter·SlotCounter·slots-since : Determined 0 slot-counter·SlotCounter·slots-since·kinds.ps slot-counter·SlotCounter·slots-since·kinds.r slot-counter·SlotCounter·slots-since·reads.Learnt
+slot-counter·SlotCounter·slots-since κs a x y u v p q = (p ∙ sym q, refl)
+
+pub transport·accepted : Determined 0 transport·accepted·kinds.ps transport·accepted·kinds.r transport·accepted·reads.Learnt
+transport·accepted κs a x y u v p q = (p ∙ sym q, refl)
+
+pub transport·needed : Determined 0 transport·needed·kinds.ps transport·needed·kinds.r transport·needed·reads.Learnt
+transport·needed κs a x y u v p q = (p ∙ sym q, refl)
+
+pub transport·interpret-packet-number-lo : Determined 0 transport·interpret-packet-number-lo·kinds.ps transport·interpret-packet-number-lo·kinds.r transport·interpret-packet-number-lo·reads.Learnt
+transport·interpret-packet-number-lo κs a x y u v p q = (ap packetNumber (p ∙ sym q), refl)
+
+pub transport·CommandRequest·read : Determined 1 transport·CommandRequest·read·kinds.ps transport·CommandRequest·read·kinds.r transport·CommandRequest·read·reads.Learnt
+transport·CommandRequest·read κs a x y u v p q = (p ∙ sym q, refl)
+
+pub transport·CommandResponse·read : Determined 1 transport·CommandResponse·read·kinds.ps transport·CommandResponse·read·kinds.r transport·CommandResponse·read·reads.Learnt
+transport·CommandResponse·read κs a x y u v p q = (p ∙ sym q, refl)
+
+pub transport·ReceiveRequest·read : Determined 1 transport·ReceiveRequest·read·kinds.ps transport·ReceiveRequest·read·kinds.r transport·ReceiveRequest·read·reads.Learnt
+transport·ReceiveRequest·read κs a x y u v p q = (p ∙ sym q, refl)
+
+pub transport·IdentifyResponse·read : Determined 1 transport·IdentifyResponse·read·kinds.ps transport·IdentifyResponse·read·kinds.r transport·IdentifyResponse·read·reads.Learnt
+transport·IdentifyResponse·read κs a x y u v p q = (p ∙ sym q, refl)
+
+pub transport·IdentifyResponse·gateway-id : Determined 0 transport·IdentifyResponse·gateway-id·kinds.ps transport·IdentifyResponse·gateway-id·kinds.r transport·IdentifyResponse·gateway-id·reads.Learnt
+transport·IdentifyResponse·gateway-id κs a x y u v p q = (p ∙ sym q, refl)
+
+pub transport·EnumerationStartRequest·read : Determined 1 transport·EnumerationStartRequest·read·kinds.ps transport·EnumerationStartRequest·read·kinds.r transport·EnumerationStartRequest·read·reads.Learnt
+transport·EnumerationStartRequest·read κs a x y u v p q = (p ∙ sym q, refl)
+
+pub transport·EnumerationStartRequest·enumeration-gateway-id : Determined 0 transport·EnumerationStartRequest·enumeration-gateway-id·kinds.ps transport·EnumerationStartRequest·enumeration-gateway-id·kinds.r transport·EnumerationStartRequest·enumeration-gateway-id·reads.Learnt
+transport·EnumerationStartRequest·enumeration-gateway-id κs a x y u v p q = (p ∙ sym q, refl)
+
+pub transport·ReceiveResponse·read : Determined 1 transport·ReceiveResponse·read·kinds.ps transport·ReceiveResponse·read·kinds.r transport·ReceiveResponse·read·reads.Learnt
+transport·ReceiveResponse·read κs a x y u v p q = (p ∙ sym q, refl)
+
+pub tables·find : Determined 1 tables·find·kinds.ps tables·find·kinds.r tables·find·reads.Learnt
+tables·find κs a x y u v p q = (p ∙ sym q, refl)
+
+pub tables·seat : Determined 1 tables·seat·kinds.ps tables·seat·kinds.r tables·seat·reads.Learnt
+tables·seat κs a x y u v p q = (p ∙ sym q, refl)
+
+pub tables·over : Determined 2 tables·over·kinds.ps tables·over·kinds.r tables·over·reads.Learnt
+tables·over κs a x y u v p q = (p ∙ sym q, refl)
+
+pub transport-receiver·Receiver·new : Determined 0 transport-receiver·Receiver·new·kinds.ps transport-receiver·Receiver·new·kinds.r transport-receiver·Receiver·new·reads.Learnt
+transport-receiver·Receiver·new κs a x y u v p q = (p ∙ sym q, refl)
+
+pub transport-receiver·Receiver·step : Determined 1 transport-receiver·Receiver·step·kinds.ps transport-receiver·Receiver·step·kinds.r transport-receiver·Receiver·step·reads.Learnt
+transport-receiver·Receiver·step κs a x y u v p q = (p .0 ∙ sym (q .0), refl)
+
+pub transport-receiver·Receiver·reset-counters : Determined 0 transport-receiver·Receiver·reset-counters·kinds.ps transport-receiver·Receiver·reset-counters·kinds.r transport-receiver·Receiver·reset-counters·reads.Learnt
+transport-receiver·Receiver·reset-counters κs a x y u v p q = (p ∙ sym q, refl)
+
+pub transport-receiver·step-in : Determined 10 transport-receiver·step-in·kinds.ps transport-receiver·step-in·kinds.r transport-receiver·step-in·reads.Learnt
+transport-receiver·step-in κs a x y u v p q = (ap (λ (s : Stepped). s .answer) (p ∙ sym q), ap (λ (s : Stepped). (at-last (a .0) (s .receiver .nkeys), (at-last (a .1 .0) (s .receiver .numbers), (at-last (a .1 .1 .0) (s .receiver .skeys), (at-last (a .1 .1 .1 .0) (s .receiver .sequences), (at-last (a .1 .1 .1 .1 .0) (s .receiver .ckeys), (at-last (a .1 .1 .1 .1 .1 .0) (s .receiver .ctypes), (at-last (a .1 .1 .1 .1 .1 .1 .0) (s .receiver .clengths), (at-last (a .1 .1 .1 .1 .1 .1 .1 .0) (s .receiver .cpayloads), (at-last (a .1 .1 .1 .1 .1 .1 .1 .1 .0) (s .receiver .counters), (a .1 .1 .1 .1 .1 .1 .1 .1 .1 .0, (a .1 .1 .1 .1 .1 .1 .1 .1 .1 .1 .0, (a .1 .1 .1 .1 .1 .1 .1 .1 .1 .1 .1 .0, tt))))))))))))) (p ∙ sym q))
+
+pub event-record·sound : Determined 1 event-record·sound·kinds.ps event-record·sound·kinds.r event-record·sound·reads.Learnt
+event-record·sound κs a x y u v p q = (p ∙ sym q, refl)
+
+pub event-record·sound-at : Determined 1 event-record·sound-at·kinds.ps event-record·sound-at·kinds.r event-record·sound-at·reads.Learnt
+event-record·sound-at κs a x y u v p q = (p ∙ sym q, refl)
+
+pub event-record·enumeration-started : Determined 1 event-record·enumeration-started·kinds.ps event-record·enumeration-started·kinds.r event-record·enumeration-started·reads.Learnt
+event-record·enumeration-started κs a x y u v p q = (handed-apart x y (p .0 ∙ sym (q .0)), cc)
+
+pub event-record·identity : Determined 2 event-record·identity·kinds.ps event-record·identity·kinds.r event-record·identity·reads.Learnt
+event-record·identity κs a x y u v p q = (handed-apart x y (p .0 ∙ sym (q .0)), cc)
+
+pub event-record·version : Determined 2 event-record·version·kinds.ps event-record·version·kinds.r event-record·version·reads.Learnt
+event-record·version κs a x y u v p q = (handed-apart x y (p .0 ∙ sym (q .0)), cc)
+
+pub event-record·enumeration-ended : Determined 1 event-record·enumeration-ended·kinds.ps event-record·enumeration-ended·kinds.r event-record·enumeration-ended·reads.Learnt
+event-record·enumeration-ended κs a x y u v p q = (handed-apart x y (p .0 ∙ sym (q .0)), cc)
+
+pub event-record·slot-captured : Determined 1 event-record·slot-captured·kinds.ps event-record·slot-captured·kinds.r event-record·slot-captured·reads.Learnt
+event-record·slot-captured κs a x y u v p q = (handed-apart x y (p .0 ∙ sym (q .0)), cc)
+
+pub event-record·slot-counter : Determined 1 event-record·slot-counter·kinds.ps event-record·slot-counter·kinds.r event-record·slot-counter·reads.Learnt
+event-record·slot-counter κs a x y u v p q = (handed-apart x y (p .0 ∙ sym (q .0)), cc)
+
+pub event-record·packet : Determined 2 event-record·packet·kinds.ps event-record·packet·kinds.r event-record·packet·reads.Learnt
+event-record·packet κs a x y u v p q = (handed-apart x y (p .0 ∙ sym (q .0)), cc)
+
+pub event-record·command : Determined 3 event-record·command·kinds.ps event-record·command·kinds.r event-record·command·reads.Learnt
+event-record·command κs a x y u v p q = (handed-apart x y (p .0 ∙ sym (q .0)), cc)
+
+pub runs·is : Determined 0 runs·is·kinds.ps runs·is·kinds.r runs·is·reads.Learnt
+runs·is κs a x y u v p q = (p ∙ sym q, refl)
+
+pub runs·run : Determined 1 runs·run·kinds.ps runs·run·kinds.r runs·run·reads.Learnt
+runs·run κs a x y u v p q = (p ∙ sym q, refl)
+
+pub runs·copy-run : Determined 2 runs·copy-run·kinds.ps runs·copy-run·kinds.r runs·copy-run·reads.Learnt
+runs·copy-run κs a x y u v p q = (p .0 ∙ sym (q .0), ap (λ (z : List ℕ). (a .0, (at-last (a .1 .0) z, (a .1 .1 .0, (a .1 .1 .1 .0, (a .1 .1 .1 .1 .0, tt)))))) (p .1 ∙ ap (λ (n : ℕ). paste (now (a .1 .0)) (a .1 .1 .0) (drop (a .1 .1 .1 .1 .0) (now (a .1 .1 .1 .0))) n) (p .0 ∙ sym (q .0)) ∙ sym (q .1)))
+
+-- a part of what is lent is handed back: its bytes are determined
+pub link-receive·payload : (κs : Lfts 1) (a : Dens κs link-receive·payload·kinds.ps) (x y : resT link-receive·payload·kinds.r κs .Denot) (u v : Lasts (endedOf 1 link-receive·payload·kinds.ps link-receive·payload·kinds.r) κs a)
+    → link-receive·payload·reads.Learnt κs a x (atExit (endedOf 1 link-receive·payload·kinds.ps link-receive·payload·kinds.r) κs a u)
+    → link-receive·payload·reads.Learnt κs a y (atExit (endedOf 1 link-receive·payload·kinds.ps link-receive·payload·kinds.r) κs a v)
+    → now x ≡ now y
+link-receive·payload κs a x y u v p q = p ∙ sym q
+
+-- a part of what is lent is handed back: its bytes are determined
+pub transport-receiver·request-payload : (κs : Lfts 1) (a : Dens κs transport-receiver·request-payload·kinds.ps) (x y : resT transport-receiver·request-payload·kinds.r κs .Denot) (u v : Lasts (endedOf 1 transport-receiver·request-payload·kinds.ps transport-receiver·request-payload·kinds.r) κs a)
+    → transport-receiver·request-payload·reads.Learnt κs a x (atExit (endedOf 1 transport-receiver·request-payload·kinds.ps transport-receiver·request-payload·kinds.r) κs a u)
+    → transport-receiver·request-payload·reads.Learnt κs a y (atExit (endedOf 1 transport-receiver·request-payload·kinds.ps transport-receiver·request-payload·kinds.r) κs a v)
+    → now x ≡ now y
+transport-receiver·request-payload κs a x y u v p q = p ∙ sym q

@@ -1,0 +1,3 @@
+pub mod Ledgers
+pub mod Determined
+pub mod Marked

@@ -1,0 +1,1 @@
+// What the contracts of the other crates come to: specs/ and proofs/ alone, no code.
