@@ -3,7 +3,7 @@ use mathlib.Core.Path.{_≡_, refl, sym, _∙_, ap}
 use Prim.Native.Nat.{ℕ, zero, suc, _+_, _≤_, _<_}
 use mathlib.Core.Bool.{Bool, true, false, cond, not, _||_}
 use mathlib.Core.List.{List, [], _∷_}
-use mathlib.Core.Option.{Option, none, some}
+use mathlib.Core.Option.{Option, none, some, Option·getD}
 use native.Mathlib.Omega.{arith}
 use lib.ListN.{length, getD, set, length-set, List·getD-eq-default}
 use lib.Seq.{getD-set-same, getD-set-other, set-out}
@@ -75,7 +75,7 @@ module _ {A : Type 0} where
         (λ t. firstWith-before (holds k) ps i (omega (arith, ltb-true i (length ps) t, ltb-false (holder ps k) (length ps) e)))
         (λ t. rw (List·getD-eq-default ps free (ltb-false i (length ps) t)))
 
-    holder-holds : isHeld ps k ≡ true → holds k (getD ps (holder ps k) free) ≡ true
+    pub holder-holds : isHeld ps k ≡ true → holds k (getD ps (holder ps k) free) ≡ true
     holder-holds e = firstWith-passes (holds k) ps (ltb-true (holder ps k) (length ps) e)
 
     -- no place before the seat holds the key
@@ -190,3 +190,14 @@ module _ {A : Type 0} where
           gone : (p : Place A) → valueIn p ≡ none → holds k p ≡ true → false ≡ true
           gone free e h = h
           gone (held i v) e h = absurd (let z : _≡_ {A = ℕ} 0 1 = cc in omega arith)
+
+  -- a look-up of a key that is not held gives nothing, of one that is held something
+  pub valueAt-unheld : (ps : List (Place A)) (k : ℕ) → isHeld ps k ≡ false → valueAt ps k ≡ none
+  valueAt-unheld ps k e = ap valueIn (List·getD-eq-default ps free (ltb-false (holder ps k) (length ps) e))
+
+  pub valueAt-isHeld : (ps : List (Place A)) (k : ℕ) (z : A) → isHeld ps k ≡ true → valueAt ps k ≡ some (Option·getD (valueAt ps k) z)
+  valueAt-isHeld ps k z e = something (getD ps (holder ps k) free) (holder-holds ps k e)
+    where
+      something : (p : Place A) → holds k p ≡ true → valueIn p ≡ some (Option·getD (valueIn p) z)
+      something free h = never h
+      something (held j v) h = refl

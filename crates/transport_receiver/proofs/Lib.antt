@@ -2,3 +2,4 @@ pub mod Pool
 pub mod Read
 pub mod Refines
 pub mod Reached
+pub mod Source
