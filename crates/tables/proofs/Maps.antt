@@ -201,3 +201,18 @@ module _ {A : Type 0} where
       something : (p : Place A) → holds k p ≡ true → valueIn p ≡ some (Option·getD (valueIn p) z)
       something free h = never h
       something (held j v) h = refl
+
+  -- storing under another key, and taking any key out, leave a key that is not held not held
+  pub valueAt-stored-other : (ps : List (Place A)) (k : ℕ) (v : A) (j : ℕ) → (j ≡ k → ⊥) → valueAt (stored ps k v) j ≡ valueAt ps j
+  valueAt-stored-other ps k v j n = set-unseen ps (seat ps k) (held k v) j (seat-other ps k j n) (ne-eqb k j (λ p. n (sym p)))
+
+  pub valueAt-removed-unheld : (ps : List (Place A)) (k j : ℕ) → isHeld ps j ≡ false → valueAt (removed ps k) j ≡ none
+  valueAt-removed-unheld ps k j e = set-unseen ps (holder ps k) free j (not-held ps j e (holder ps k)) refl ∙ valueAt-unheld ps j e
+
+  -- what a look-up gives says whether a key is held
+  pub unheld-valueAt : (ps : List (Place A)) (k : ℕ) → valueAt ps k ≡ none → isHeld ps k ≡ false
+  unheld-valueAt ps k e = by (isHeld ps k) (λ t. absurd (clash (getD ps (holder ps k) free) e (holder-holds ps k t))) (λ t. t)
+    where
+      clash : (p : Place A) → valueIn p ≡ none → holds k p ≡ true → ⊥
+      clash free a h = never h
+      clash (held j v) a h = let z : _≡_ {A = ℕ} 0 1 = cc in omega arith

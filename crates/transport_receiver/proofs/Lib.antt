@@ -3,3 +3,5 @@ pub mod Read
 pub mod Refines
 pub mod Reached
 pub mod Source
+pub mod Once
+pub mod Handed

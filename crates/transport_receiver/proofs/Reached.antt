@@ -80,7 +80,7 @@ over-freed (p ∷ ps) (suc i) e = go (isOver p) e (over-freed ps i)
     go true e r = absurd (let z : _≡_ {A = ℕ} 0 1 = cc in omega arith)
     go false e r = r e
 
-clash : {P : Type 0} {n : ℕ} {e : Event} → refused n ≡ event e → P
+pub clash : {P : Type 0} {n : ℕ} {e : Event} → refused n ≡ event e → P
 clash q = absurd (let z : _≡_ {A = ℕ} 0 1 = cc in omega arith)
 
 -- a response that found its request, given again, gets 30: its request is gone until a new one is stored
