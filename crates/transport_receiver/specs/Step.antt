@@ -1,5 +1,5 @@
 -- What a sound frame means: 01's refusals in their order, and what an accepted frame does. Assumes nothing.
-use Prim.Native.Nat.{ℕ, _+_, _*_, _%_, _^_}
+use Prim.Native.Nat.{ℕ}
 use mathlib.Core.Bool.{Bool, true, false, cond, not, _&&_, _||_}
 use mathlib.Core.List.{List, [], _∷_}
 use mathlib.Core.Option.{Option, none, some}
@@ -217,8 +217,10 @@ abbrev pub judged : List Row → State → Frame → Result
 judged [] s f = accepted s f
 judged (r ∷ rs) s f = cond (r .holds) (refuse s r) (judged rs s f)
 
+-- behind 12, 13 and 32
 unfoldable pub handledOf : State → Frame → Result
 handledOf s f = judged (rowsOfType s f) s f
 
+-- the whole step: what a frame hands back, and the tables and counters after it
 unfoldable pub stepOf : State → Frame → Result
 stepOf s f = judged (rowsOfAny s f (rowsOfType s f)) s f
