@@ -38,7 +38,7 @@ crcBit-above x y =
     ∙ ap (λ (k : ℕ). bitXor (x / 2) k) (xor-comm y (x % 2 * polynomial))
     ∙ sym (xor-assoc (x / 2) (x % 2 * polynomial) y)
 
-crcBits-above : (n x y : ℕ) → crcBits n (bitXor x (y * 2 ^ n)) ≡ bitXor (crcBits n x) y
+pub crcBits-above : (n x y : ℕ) → crcBits n (bitXor x (y * 2 ^ n)) ≡ bitXor (crcBits n x) y
 crcBits-above zero x y = ap (λ (k : ℕ). bitXor x k) (mul-one y)
 crcBits-above (suc n) x y =
     ap (λ (k : ℕ). crcBits n (crcBit (bitXor x k))) (ap (λ (p : ℕ). y * p) (pow-suc 2 n) ∙ sym (mul-assoc y (2 ^ n) 2))
@@ -70,7 +70,7 @@ pub crcFrom-append : (xs ys : List ℕ) (crc : ℕ) → crcFrom crc (xs ++ ys) �
 crcFrom-append [] ys crc = refl
 crcFrom-append (x ∷ xs) ys crc = crcFrom-append xs ys (crcByte crc x)
 
-bit-lt : (x p : ℕ) → p < 2 ^ 16 → x % 2 * p < 2 ^ 16
+pub bit-lt : (x p : ℕ) → p < 2 ^ 16 → x % 2 * p < 2 ^ 16
 bit-lt x p h = two (x % 2) (mod-lt x (lit< tt))
   where
     two : (b : ℕ) → b < 2 → b * p < 2 ^ 16
@@ -81,7 +81,7 @@ bit-lt x p h = two (x % 2) (mod-lt x (lit< tt))
 crcBit-lt : (c : ℕ) → c < 2 ^ 16 → crcBit c < 2 ^ 16
 crcBit-lt c h = xor-lt 16 (c / 2) (c % 2 * polynomial) (omega arith) (bit-lt c polynomial (omega arith))
 
-crcBits-lt : (n c : ℕ) → c < 2 ^ 16 → crcBits n c < 2 ^ 16
+pub crcBits-lt : (n c : ℕ) → c < 2 ^ 16 → crcBits n c < 2 ^ 16
 crcBits-lt zero c h = h
 crcBits-lt (suc n) c h = crcBits-lt n (crcBit c) (crcBit-lt c h)
 
@@ -89,7 +89,7 @@ crcByte-lt : (c b : ℕ) → c < 2 ^ 16 → b < 256 → crcByte c b < 2 ^ 16
 unfolding crcByte
 crcByte-lt c b h g = crcBits-lt 8 (bitXor c b) (xor-lt 16 c b h (omega arith))
 
-crcFrom-lt : (xs : List ℕ) (c : ℕ) → c < 2 ^ 16 → Bytes xs → crcFrom c xs < 2 ^ 16
+pub crcFrom-lt : (xs : List ℕ) (c : ℕ) → c < 2 ^ 16 → Bytes xs → crcFrom c xs < 2 ^ 16
 crcFrom-lt [] c h g = h
 crcFrom-lt (x ∷ xs) c h g = crcFrom-lt xs (crcByte c x) (crcByte-lt c x h (g 0)) (λ i. g (suc i))
 

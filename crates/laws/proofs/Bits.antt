@@ -8,7 +8,7 @@ use lib.Pow.{pow-pos}
 use lib.Bits.{bitXor, differ, xor-step, xor-comm, xor-zero-l, xor-shr, xor-mod, xor-shifted}
 
 -- what holds of both bits holds of each number below 2
-bit : (P : ℕ → Type 0) → P 0 → P 1 → (x : ℕ) → x < 2 → P x
+pub bit : (P : ℕ → Type 0) → P 0 → P 1 → (x : ℕ) → x < 2 → P x
 bit P p q zero h = p
 bit P p q (suc zero) h = q
 bit P p q (suc (suc x)) h = absurd (not-suc-le-zero (le-of-suc-le-suc (le-of-suc-le-suc h)))
@@ -22,7 +22,7 @@ bit-assoc =
     (bit (λ (y : ℕ). (z : ℕ) → z < 2 → Assoc 0 y z) (bit (Assoc 0 0) refl refl) (bit (Assoc 0 1) refl refl))
     (bit (λ (y : ℕ). (z : ℕ) → z < 2 → Assoc 1 y z) (bit (Assoc 1 0) refl refl) (bit (Assoc 1 1) refl refl))
 
-low-bit : (n : ℕ) → n % 2 < 2
+pub low-bit : (n : ℕ) → n % 2 < 2
 low-bit n = mod-lt n (zero-lt-suc 1)
 
 pub xor-assoc : (a b c : ℕ) → bitXor (bitXor a b) c ≡ bitXor a (bitXor b c)

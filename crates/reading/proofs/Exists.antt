@@ -1,6 +1,6 @@
 -- A reading exists: what the reader finds makes up the bytes (`join-pieces`), and the rules allow it (`follows-pieces`). Assumes nothing.
-use mathlib.Core.Path.{_≡_, refl, sym, _∙_, ap}
-use Prim.Native.Nat.{ℕ, suc, _+_, _≤_, _<_}
+use mathlib.Core.Path.{_≡_, refl, _∙_}
+use Prim.Native.Nat.{ℕ, _+_, _≤_}
 use mathlib.Core.Bool.{Bool, true, false, cond}
 use mathlib.Core.List.{List, [], _∷_, _++_, append-assoc, append-nil}
 use mathlib.Core.Option.{Option, none, some}
@@ -10,8 +10,8 @@ use lib.Dec.{eqb, ltb}
 use borrow.Author.Tests.{eqb-true, ltb-true, ltb-false}
 use Rattle.escaping.specs.Escapes.{Meaning, datum, opener, closer, neither, meaning}
 use Rattle.reading.specs.Grammar as g
-use Rattle.reading.specs.Grammar.{Line, idle, noisy, Unit, raw, pair, Opener, here, before, Ending, closed, broken-by, giant-by, escaped-by, unfinished, unfinished-7e, Start, whole, half, TailEnd, at-closer, at-opener, runs-out, runs-out-7e, Piece, outside-byte, outside-pair, outside-7e, frame, tail, unitBytes, openerBytes, endingBytes, tailEndBytes, pieceBytes, join, Next, outside, opened, overlong, nothing, afterTail, skips, is7e, leadsTo, DataUnit, Skipped, All, Ends, by-closer, by-break, by-raw, by-escape, by-end, by-end-7e, Follows, ends, ended, byte, any-other-pair, lone-7e, opens-here, opened-before, one-tail, Reading}
-use Rattle.reading.proofs.Reader.{Hand, clear, clear-7e, in-frame, in-frame-7e, due, in-tail, in-tail-7e, Move, goes, gives, led, finish, step, pieces, piecesOf}
+use Rattle.reading.specs.Grammar.{Line, idle, Unit, raw, pair, Opening, here, before, Ending, whole, half, TailEnd, at-closer, at-opener, runs-out, runs-out-7e, Piece, frame, unitBytes, openerBytes, tailEndBytes, pieceBytes, join, Next, outside, opened, overlong, afterTail, skips, is7e, DataUnit, Skipped, All, Ends, by-closer, by-break, by-raw, by-escape, by-end, by-end-7e, Follows, may-end, must-end, byte, any-other-pair, lone-7e, opens-here, opened-before, one-tail, Reading}
+use Rattle.reading.proofs.Reader.{Hand, clear, clear-7e, in-frame, in-frame-7e, due, in-tail, in-tail-7e, led, finish, step, pieces, piecesOf}
 
 -- the opener is 07, the closer 08
 meaning-opener : (b : ℕ) → meaning b ≡ opener → b ≡ 0x07
@@ -88,13 +88,13 @@ module _ (limit : ℕ) where
   kept-out-7e b bs closer e = rw e
   kept-out-7e b bs neither e = rw e
 
-  kept-frame : (o : Opener) (us : List Unit) (b : ℕ) (bs : List ℕ) (t u : Bool) → is7e b ≡ t → ltb (length us) limit ≡ u → Kept (in-frame o us) b bs
+  kept-frame : (o : Opening) (us : List Unit) (b : ℕ) (bs : List ℕ) (t u : Bool) → is7e b ≡ t → ltb (length us) limit ≡ u → Kept (in-frame o us) b bs
   unfolding join unitBytes
   kept-frame o us b bs true u e f = rw (e, eqb-true b 0x7e e) (simp append-assoc)
   kept-frame o us b bs false true e f = rw (e, f) (simp (unitBytes-append, append-assoc))
   kept-frame o us b bs false false e f = rw (e, f) (simp append-assoc)
 
-  kept-frame-7e : (o : Opener) (us : List Unit) (b : ℕ) (bs : List ℕ) (m : Meaning) (u : Bool) → meaning b ≡ m → ltb (length us) limit ≡ u → Kept (in-frame-7e o us) b bs
+  kept-frame-7e : (o : Opening) (us : List Unit) (b : ℕ) (bs : List ℕ) (m : Meaning) (u : Bool) → meaning b ≡ m → ltb (length us) limit ≡ u → Kept (in-frame-7e o us) b bs
   unfolding join unitBytes
   kept-frame-7e o us b bs datum true e f = rw (e, f) (simp (unitBytes-append, append-assoc))
   kept-frame-7e o us b bs datum false e f = rw (e, f) (simp append-assoc)
@@ -149,7 +149,7 @@ module _ (limit : ℕ) where
   -- EVERY PIECE IS WITHIN THE RULES
 
   -- where a frame or a tail in hand was begun
-  data Begins : Opener → Next → Type 0 where
+  data Begins : Opening → Next → Type 0 where
     by-own : {l : Line} → Begins here (outside l)
     by-last : Begins before opened
 
@@ -157,7 +157,7 @@ module _ (limit : ℕ) where
     by-none : Leads none (overlong whole)
     by-half : {b : ℕ} → skips (meaning b) ≡ true → Leads (some b) (overlong half)
 
-  framed : {o : Opener} {us : List Unit} {e : Ending} {at next : Next} {ps : List Piece} → Begins o at → All DataUnit us → Ends limit (length us) e next → Follows limit next ps → Follows limit at (frame o us e ∷ ps)
+  framed : {o : Opening} {us : List Unit} {e : Ending} {at next : Next} {ps : List Piece} → Begins o at → All DataUnit us → Ends limit (length us) e next → Follows limit next ps → Follows limit at (frame o us e ∷ ps)
   framed by-own a n f = opens-here a n f
   framed by-last a n f = opened-before a n f
 
@@ -169,8 +169,8 @@ module _ (limit : ℕ) where
   data At : Hand → Next → Type 0 where
     at-out : {l : Line} → At (clear l) (outside l)
     at-out-7e : {l : Line} → At clear-7e (outside l)
-    at-frame : {o : Opener} {us : List Unit} {at : Next} → Begins o at → All DataUnit us → length us ≤ limit → At (in-frame o us) at
-    at-frame-7e : {o : Opener} {us : List Unit} {at : Next} → Begins o at → All DataUnit us → length us ≤ limit → At (in-frame-7e o us) at
+    at-frame : {o : Opening} {us : List Unit} {at : Next} → Begins o at → All DataUnit us → length us ≤ limit → At (in-frame o us) at
+    at-frame-7e : {o : Opening} {us : List Unit} {at : Next} → Begins o at → All DataUnit us → length us ≤ limit → At (in-frame-7e o us) at
     at-due : At due (overlong half)
     at-tail : {l : Option ℕ} {us : List Unit} {at : Next} → Leads l at → All Skipped us → At (in-tail l us) at
     at-tail-7e : {l : Option ℕ} {us : List Unit} {at : Next} → Leads l at → All Skipped us → At (in-tail-7e l us) at
@@ -191,12 +191,12 @@ module _ (limit : ℕ) where
   judged-out-7e l b bs ih closer e = rw e (any-other-pair {b = b} (rw e) (ih _ _ at-out))
   judged-out-7e l b bs ih neither e = rw e (any-other-pair {b = b} (rw e) (ih _ _ at-out))
 
-  judged-frame : {o : Opener} {us : List Unit} {at : Next} (b : ℕ) (bs : List ℕ) → Later bs → Begins o at → All DataUnit us → length us ≤ limit → (t u : Bool) → is7e b ≡ t → ltb (length us) limit ≡ u → Judged (in-frame o us) b bs at
+  judged-frame : {o : Opening} {us : List Unit} {at : Next} (b : ℕ) (bs : List ℕ) → Later bs → Begins o at → All DataUnit us → length us ≤ limit → (t u : Bool) → is7e b ≡ t → ltb (length us) limit ≡ u → Judged (in-frame o us) b bs at
   judged-frame {us = us} b bs ih o a n true u e f = rw e (ih _ _ (at-frame-7e o a n))
   judged-frame {us = us} b bs ih o a n false true e f = rw (e, f) (ih _ _ (at-frame o (all-last {us = us} a e) (simp length-append (omega (arith, ltb-true (length us) limit f)))))
   judged-frame {us = us} b bs ih o a n false false e f = rw (e, f) (framed o a (by-raw {b = b} (omega (arith, ltb-false (length us) limit f)) e) (ih _ _ (at-tail by-none g.none)))
 
-  judged-frame-7e : {o : Opener} {us : List Unit} {at : Next} (b : ℕ) (bs : List ℕ) → Later bs → Begins o at → All DataUnit us → length us ≤ limit → (m : Meaning) (u : Bool) → meaning b ≡ m → ltb (length us) limit ≡ u → Judged (in-frame-7e o us) b bs at
+  judged-frame-7e : {o : Opening} {us : List Unit} {at : Next} (b : ℕ) (bs : List ℕ) → Later bs → Begins o at → All DataUnit us → length us ≤ limit → (m : Meaning) (u : Bool) → meaning b ≡ m → ltb (length us) limit ≡ u → Judged (in-frame-7e o us) b bs at
   judged-frame-7e {us = us} b bs ih o a n datum true e f = rw (e, f) (ih _ _ (at-frame o (all-last {us = us} a e) (simp length-append (omega (arith, ltb-true (length us) limit f)))))
   judged-frame-7e {us = us} b bs ih o a n datum false e f = rw (e, f) (framed o a (by-escape {b = b} (omega (arith, ltb-false (length us) limit f)) e) (ih _ _ at-due))
   judged-frame-7e {us = us} b bs ih o a n opener u e f = rw e (framed o a (by-break {b = b} n (rw e)) (ih _ _ at-out))
@@ -229,13 +229,13 @@ module _ (limit : ℕ) where
   judged-step b bs ih (at-tail-7e s a) = judged-tail-7e b bs ih s a (meaning b) refl
 
   judged-finish : {h : Hand} {at : Next} → At h at → Follows limit at (finish h)
-  judged-finish at-out = ends
+  judged-finish at-out = may-end
   judged-finish at-out-7e = lone-7e
-  judged-finish (at-frame o a n) = framed o a (by-end n) ended
-  judged-finish (at-frame-7e o a n) = framed o a (by-end-7e n) ended
-  judged-finish at-due = one-tail refl g.none ended
-  judged-finish (at-tail s a) = tailed runs-out s a ended
-  judged-finish (at-tail-7e s a) = tailed runs-out-7e s a ended
+  judged-finish (at-frame o a n) = framed o a (by-end n) must-end
+  judged-finish (at-frame-7e o a n) = framed o a (by-end-7e n) must-end
+  judged-finish at-due = one-tail refl g.none must-end
+  judged-finish (at-tail s a) = tailed runs-out s a must-end
+  judged-finish (at-tail-7e s a) = tailed runs-out-7e s a must-end
 
   -- the rules allow the pieces found
   follows-pieces : (bs : List ℕ) → Later bs

@@ -1,51 +1,43 @@
 -- The marked cases hold, for any check: one test that antt computes over the rows. Assumes nothing.
-use mathlib.Core.Path.{_≡_, refl, ap}
+use mathlib.Core.Path.{_≡_, refl}
 use Prim.Native.Nat.{ℕ}
-use mathlib.Core.List.{List, [], _∷_, _++_, map}
+use mathlib.Core.List.{List, [], _∷_, map}
 use Rattle.escaping.specs.Escapes.{meaning}
+use Rattle.link.specs.Wire.{bodyLimit}
 use Rattle.reading.specs.Grammar as g
-use Rattle.reading.specs.Grammar.{All, unitLimit}
-use Rattle.reading.specs.Counts.{Rest, count, leftFrom, left, ledgerOf, verdict}
+use Rattle.reading.specs.Grammar.{All}
+use Rattle.reading.specs.Counts.{count, soundBodies, leftFrom, verdict}
+use Rattle.reading.specs.Accounts.{Account, accountOf}
 use Rattle.reading.specs.Marked.{Row, Holds, marked, corners}
 use Rattle.reading.proofs.Reader.{piecesOf, pieces}
 use Rattle.reading.proofs.Once.{the-reading}
 
-record Claim : Type 0 where
-  numbers : List ℕ
-  rest : Rest
-
 -- what a row says
-abbrev said : Row → Claim
-said x = record { numbers = x .numbers; rest = x .rest }
+abbrev said : Row → Account
+said x = x .account
 
-first : (a b : Claim) (xs ys : List Claim) → a ∷ xs ≡ b ∷ ys → a ≡ b
+first : (a b : Account) (xs ys : List Account) → a ∷ xs ≡ b ∷ ys → a ≡ b
 first a b xs ys e = cc
 
-others : (a b : Claim) (xs ys : List Claim) → a ∷ xs ≡ b ∷ ys → xs ≡ ys
+others : (a b : Account) (xs ys : List Account) → a ∷ xs ≡ b ∷ ys → xs ≡ ys
 others a b xs ys e = cc
 
 module _ (check : List ℕ → ℕ) where
-  -- what the row's one reading says
-  abbrev found : Row → Claim
-  found x = record { numbers = ledgerOf check (piecesOf unitLimit (x .bytes)); rest = left (piecesOf unitLimit (x .bytes)) }
+  -- what is found
+  abbrev found : Row → Account
+  found x = accountOf check (piecesOf bodyLimit (x .bytes))
 
   holds : (x : Row) → found x ≡ said x → Holds check x
-  holds x e =
-      record {
-        pieces = piecesOf unitLimit (x .bytes);
-        reading = the-reading unitLimit (x .bytes);
-        numbers = ap (λ (c : Claim). c .numbers) e;
-        rest = ap (λ (c : Claim). c .rest) e;
-      }
+  holds x e = record { pieces = piecesOf bodyLimit (x .bytes); reading = the-reading bodyLimit (x .bytes); says = e }
 
   all-hold : (xs : List Row) → map found xs ≡ map said xs → All (Holds check) xs
   all-hold [] e = g.none
   all-hold (x ∷ xs) e = g.also (holds x (first _ _ (map found xs) (map said xs) e)) (all-hold xs (others _ _ (map found xs) (map said xs) e))
 
   pub marked-cases : All (Holds check) marked
-  unfolding marked count leftFrom pieces meaning verdict
+  unfolding marked count soundBodies leftFrom pieces meaning verdict
   marked-cases = all-hold marked refl
 
   pub corner-cases : All (Holds check) corners
-  unfolding corners count leftFrom pieces meaning verdict
+  unfolding corners count soundBodies leftFrom pieces meaning verdict
   corner-cases = all-hold corners refl

@@ -1,20 +1,19 @@
 -- One way to find a reading: byte by byte, with the unfinished piece in hand. A device of the proofs. Assumes nothing.
-use mathlib.Core.Path.{_≡_}
 use Prim.Native.Nat.{ℕ}
-use mathlib.Core.Bool.{Bool, true, false, cond}
+use mathlib.Core.Bool.{cond}
 use mathlib.Core.List.{List, [], _∷_, _++_}
 use mathlib.Core.Option.{Option, none, some}
 use lib.ListN.{length}
 use lib.Dec.{ltb}
 use Rattle.escaping.specs.Escapes.{Meaning, datum, opener, closer, neither, meaning}
-use Rattle.reading.specs.Grammar.{Line, idle, noisy, Unit, raw, pair, Opener, here, before, Ending, closed, broken-by, giant-by, escaped-by, unfinished, unfinished-7e, Start, whole, half, TailEnd, at-closer, at-opener, runs-out, runs-out-7e, Piece, outside-byte, outside-pair, outside-7e, frame, tail, Next, outside, opened, overlong, nothing, is7e, leadsTo, isNoise}
+use Rattle.reading.specs.Grammar.{Line, idle, noisy, Unit, raw, pair, Opening, here, before, closed, broken-by, giant-by, escaped-by, unfinished, unfinished-7e, whole, half, TailEnd, at-closer, at-opener, runs-out, runs-out-7e, Piece, outside-byte, outside-pair, outside-7e, frame, tail, Next, outside, opened, overlong, nothing, is7e, leadsTo, isNoise}
 
 -- the piece in hand: none, an outside 7e, a frame, a tail. A tail is led by nothing or by the second half of a pair; `due` awaits that half.
 pub data Hand : Type 0 where
   clear : Line → Hand
   clear-7e : Hand
-  in-frame : Opener → List Unit → Hand
-  in-frame-7e : Opener → List Unit → Hand
+  in-frame : Opening → List Unit → Hand
+  in-frame-7e : Opening → List Unit → Hand
   due : Hand
   in-tail : Option ℕ → List Unit → Hand
   in-tail-7e : Option ℕ → List Unit → Hand
@@ -71,13 +70,13 @@ pairDue b datum = goes (in-tail (some b) [])
 pairDue b neither = goes (in-tail (some b) [])
 
 module _ (limit : ℕ) where
-  abbrev pub pairInFrame : Opener → List Unit → ℕ → Meaning → Move
+  abbrev pub pairInFrame : Opening → List Unit → ℕ → Meaning → Move
   pairInFrame o us b datum = cond (ltb (length us) limit) (goes (in-frame o (us ++ (pair b ∷ [])))) (gives (frame o us (escaped-by b)) due)
   pairInFrame o us b closer = gives (frame o us closed) (clear idle)
   pairInFrame o us b opener = gives (frame o us (broken-by b)) (clear noisy)
   pairInFrame o us b neither = gives (frame o us (broken-by b)) (clear noisy)
 
-  abbrev pub rawInFrame : Opener → List Unit → ℕ → Move
+  abbrev pub rawInFrame : Opening → List Unit → ℕ → Move
   rawInFrame o us b = cond (ltb (length us) limit) (goes (in-frame o (us ++ (raw b ∷ [])))) (gives (frame o us (giant-by b)) (in-tail none []))
 
   abbrev pub step : Hand → ℕ → Move

@@ -1,20 +1,16 @@
 -- 01, "The reading of a stream", as a grammar: a list of pieces that joined make up the bytes, each piece judged by its own rule.
--- No state machine and nothing of the receiver. Over any limit on the data units of a frame. Assumes nothing.
+-- What stands in quotes is 01's, from that section. No state machine and nothing of the receiver. Over any limit on a frame's data units. Assumes nothing.
 use mathlib.Core.Path.{_≡_}
-use Prim.Native.Nat.{ℕ, suc, _≤_}
+use Prim.Native.Nat.{ℕ, _≤_}
 use mathlib.Core.Bool.{Bool, true, false, cond}
 use mathlib.Core.List.{List, [], _∷_, _++_}
 use lib.ListN.{length, drop}
 use lib.Dec.{eqb}
 use Rattle.escaping.specs.Escapes.{Meaning, datum, opener, closer, neither, meaning}
 
--- "at most 256 data units": 01's limit
-abbrev pub unitLimit : ℕ
-unitLimit = 256
-
 -- PIECES
 
--- outside an open frame and the overlong tail, the line is Idle or in Noise
+-- "Outside an open frame and the overlong tail" the line is Idle or in Noise
 pub data Line : Type 0 where
   idle noisy : Line
 
@@ -24,10 +20,10 @@ pub data Unit : Type 0 where
   pair : ℕ → Unit
 
 -- "An opener lies in the piece it ends, if there is one": a frame's opener stands here, in its own bytes, or before, at the end of a tail
-pub data Opener : Type 0 where
-  here before : Opener
+pub data Opening : Type 0 where
+  here before : Opening
 
--- "A frame ends in one of six ways", or is the last and unfinished: "a lone last 7e waits".
+-- "A frame ends in one of six ways", or is the last and unfinished, perhaps after a 7e: "A lone last 7e waits."
 -- (Closed is three of the six: the verdict on its body tells runt, checksum and sound apart.)
 pub data Ending : Type 0 where
   closed : Ending
@@ -36,7 +32,7 @@ pub data Ending : Type 0 where
   escaped-by : ℕ → Ending
   unfinished unfinished-7e : Ending
 
--- the tail after a giant starts with a whole unit; after an escaped overlong "its first byte is read as the second half of a pair"
+-- the tail after a giant starts with a whole unit; after an escaped overlong it is one "whose first byte is read as the second half of a pair"
 pub data Start : Type 0 where
   whole half : Start
 
@@ -50,7 +46,7 @@ pub data Piece : Type 0 where
   outside-byte : Bool → ℕ → Piece
   outside-pair : ℕ → Piece
   outside-7e : Piece
-  frame : Opener → List Unit → Ending → Piece
+  frame : Opening → List Unit → Ending → Piece
   tail : Start → List Unit → TailEnd → Piece
 
 -- THEIR BYTES
@@ -60,7 +56,7 @@ unitBytes [] = []
 unitBytes (raw b ∷ us) = b ∷ unitBytes us
 unitBytes (pair b ∷ us) = 0x7e ∷ b ∷ unitBytes us
 
-abbrev pub openerBytes : Opener → List ℕ
+abbrev pub openerBytes : Opening → List ℕ
 openerBytes here = 0x7e ∷ 0x07 ∷ []
 openerBytes before = []
 
@@ -192,18 +188,23 @@ module _ (limit : ℕ) where
   -- the pieces that may follow
   pub data Follows : Next → List Piece → Type 0 where
     -- the bytes may end outside, and do after an unfinished piece
-    ends : {l : Line} → Follows (outside l) []
-    ended : Follows nothing []
+    may-end : {l : Line} → Follows (outside l) []
+    must-end : Follows nothing []
     -- "00 and ff lead to Idle. Another byte leads to Noise, one noise if it came in Idle."
-    byte : {l : Line} {noise : Bool} {b : ℕ} {ps : List Piece} → is7e b ≡ false → isNoise l (leadsTo b) ≡ noise → Follows (outside (leadsTo b)) ps → Follows (outside l) (outside-byte noise b ∷ ps)
+    byte : {l : Line} {noise : Bool} {b : ℕ} {ps : List Piece}
+        → is7e b ≡ false → isNoise l (leadsTo b) ≡ noise → Follows (outside (leadsTo b)) ps → Follows (outside l) (outside-byte noise b ∷ ps)
     -- "7e with its next byte is a pair. 7e 07 opens a frame. Any other pair is one noise and leads to Noise." "A lone last 7e waits."
-    any-other-pair : {l : Line} {b : ℕ} {ps : List Piece} → opens (meaning b) ≡ false → Follows (outside noisy) ps → Follows (outside l) (outside-pair b ∷ ps)
+    any-other-pair : {l : Line} {b : ℕ} {ps : List Piece}
+        → opens (meaning b) ≡ false → Follows (outside noisy) ps → Follows (outside l) (outside-pair b ∷ ps)
     lone-7e : {l : Line} → Follows (outside l) (outside-7e ∷ [])
     -- a frame with its opener; a frame whose opener ended a tail
-    opens-here : {l : Line} {us : List Unit} {e : Ending} {next : Next} {ps : List Piece} → All DataUnit us → Ends (length us) e next → Follows next ps → Follows (outside l) (frame here us e ∷ ps)
-    opened-before : {us : List Unit} {e : Ending} {next : Next} {ps : List Piece} → All DataUnit us → Ends (length us) e next → Follows next ps → Follows opened (frame before us e ∷ ps)
+    opens-here : {l : Line} {us : List Unit} {e : Ending} {next : Next} {ps : List Piece}
+        → All DataUnit us → Ends (length us) e next → Follows next ps → Follows (outside l) (frame here us e ∷ ps)
+    opened-before : {us : List Unit} {e : Ending} {next : Next} {ps : List Piece}
+        → All DataUnit us → Ends (length us) e next → Follows next ps → Follows opened (frame before us e ∷ ps)
     -- "one tail after each overlong frame (perhaps empty)"
-    one-tail : {s : Start} {us : List Unit} {e : TailEnd} {ps : List Piece} → startsSo s us e ≡ true → All Skipped us → Follows (afterTail e) ps → Follows (overlong s) (tail s us e ∷ ps)
+    one-tail : {s : Start} {us : List Unit} {e : TailEnd} {ps : List Piece}
+        → startsSo s us e ≡ true → All Skipped us → Follows (afterTail e) ps → Follows (overlong s) (tail s us e ∷ ps)
 
   -- "a reading is a list of pieces that joined make up the bytes", "judged by the rules above"; "a fresh receiver is Idle"
   pub record Reading (bs : List ℕ) (ps : List Piece) : Type 0 where

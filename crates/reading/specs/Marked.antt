@@ -1,26 +1,24 @@
 -- 01, "Marked cases", those of the link: one list of rows, and what it is for a row to hold. Over any check. Assumes nothing.
-use mathlib.Core.Path.{_≡_}
 use Prim.Native.Nat.{ℕ}
 use mathlib.Core.List.{List, [], _∷_, _++_}
 use lib.ListN.{replicate}
-use Rattle.reading.specs.Grammar.{Line, idle, noisy, Piece, TheReading, unitLimit}
-use Rattle.reading.specs.Counts.{Rest, out, out-7e, inside, inside-7e, over, over-7e, left, ledgerOf}
+use Rattle.link.specs.Wire.{bodyLimit}
+use Rattle.reading.specs.Grammar.{idle, noisy}
+use Rattle.reading.specs.Counts.{Rest, out, out-7e, inside, inside-7e, over, over-7e}
+use Rattle.reading.specs.Accounts.{Account, Tells}
 
--- bytes, the nine numbers of their ledger, and where they leave off
+-- bytes, and what their one reading says
 pub record Row : Type 0 where
   pub bytes : List ℕ
-  pub numbers : List ℕ
-  pub rest : Rest
+  pub account : Account
 
+-- bytes with no sound frame: the nine numbers of their ledger, and where they leave off
 abbrev pub row : List ℕ → List ℕ → Rest → Row
-row bs ns r = record { bytes = bs; numbers = ns; rest = r }
+row bs ns r = record { bytes = bs; account = record { numbers = ns; frames = []; rest = r } }
 
--- the row's one reading counts what the row says, and leaves off there
-pub record Holds (check : List ℕ → ℕ) (x : Row) : Type 0 where
-  pub pieces : List Piece
-  pub reading : TheReading unitLimit (x .bytes) pieces
-  pub numbers : ledgerOf check pieces ≡ x .numbers
-  pub rest : left pieces ≡ x .rest
+-- the row's one reading says what the row says
+abbrev pub Holds : (List ℕ → ℕ) → Row → Type 0
+Holds check x = Tells check bodyLimit (x .bytes) (x .account)
 
 -- 7e 07, 256 times 41
 abbrev pub full : List ℕ

@@ -1,0 +1,5 @@
+pub mod Turns
+pub mod Steps
+pub mod Feeds
+pub mod Frames
+pub mod Drains

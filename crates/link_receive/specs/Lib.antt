@@ -1,0 +1,5 @@
+pub mod Tally
+pub mod Frames
+pub mod Step
+pub mod Feed
+pub mod Drain

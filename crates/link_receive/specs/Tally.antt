@@ -1,0 +1,52 @@
+-- The eight tallies: one of them is raised at a time, and wraps. Assumes nothing.
+use Prim.Native.Nat.{ℕ, _+_}
+use mathlib.Core.Bool.{Bool, true, false, cond}
+use Rattle.laws.specs.Wrap.{raised}
+use Rattle.reading.specs.Kinds.{Kind, same}
+use Rattle.reading.specs.Kinds as k
+use Rattle.link_receive.specs.declared.Tallies.{Tallies}
+use Rattle.link_receive.specs.declared.Tally.{Tally}
+use Rattle.link_receive.specs.declared.Tally.the-variants as tally
+
+-- which count a tally keeps
+abbrev pub kindOf : Tally → Kind
+kindOf tally.Openings = k.openings
+kindOf tally.Frames = k.frames
+kindOf tally.Runts = k.runts
+kindOf tally.Checksums = k.checksums
+kindOf tally.Giants = k.giants
+kindOf tally.Escaped = k.escaped
+kindOf tally.Broken = k.broken
+kindOf tally.Noise = k.noise
+
+-- the tally of a kind
+abbrev pub tallyOf : Kind → Tallies → ℕ
+tallyOf k.openings t = t .openings
+tallyOf k.frames t = t .frames
+tallyOf k.runts t = t .runts
+tallyOf k.checksums t = t .checksums
+tallyOf k.giants t = t .giants
+tallyOf k.escaped t = t .escaped
+tallyOf k.broken t = t .broken
+tallyOf k.noise t = t .noise
+
+-- the tallies, each made of its kind
+abbrev pub talliesOf : (Kind → ℕ) → Tallies
+talliesOf f =
+    record {
+      openings = f k.openings;
+      frames = f k.frames;
+      runts = f k.runts;
+      checksums = f k.checksums;
+      giants = f k.giants;
+      escaped = f k.escaped;
+      broken = f k.broken;
+      noise = f k.noise;
+    }
+
+-- 01, "The reading of a stream": tallies wrap at 2^64
+abbrev pub raise : Kind → Tallies → Tallies
+raise j t = talliesOf (λ i. cond (same j i) (raised (tallyOf i t)) (tallyOf i t))
+
+abbrev pub zeros : Tallies
+zeros = talliesOf (λ i. 0)

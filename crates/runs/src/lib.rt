@@ -1,0 +1,203 @@
+// Runs of bytes, taken many at a time: eight while all eight are of a sort, then one by one. The receiver skips and copies
+// such runs, and the encoder copies the bytes that stand for themselves.
+ghost use mathlib.Core.Path.{_≡_};
+ghost use mathlib.Core.Bool.{true, not};
+ghost use Prim.Native.Nat.{ℕ, _+_, _-_, _≤_, _<_};
+ghost use lib.ListN.{length, take, drop};
+ghost use lib.Seq.{paste};
+ghost use lib.Dec.{eqb};
+ghost use Rattle.runs.specs.Runs.{raw, idle, fenced, isOf, lead, All, laid};
+
+// A sort of bytes: any but 7e; 00 and ff; any but 00, ff and 7e; those that stand for themselves on the wire.
+pub enum Sort {
+    Raw,
+    Idle,
+    Noise,
+    Plain,
+}
+
+// 23 to 25 and a3 to a5.
+fn is_fenced(b: u8) -> bool
+    ensures { λ r. ⌜ r ≡ fenced b ⌝ }
+{
+    let c = b % 128;
+    if c < 0x23 {
+        return false;
+    }
+    c < 0x26
+}
+
+// 00 and ff.
+fn is_idle(b: u8) -> bool
+    ensures { λ r. ⌜ r ≡ idle b ⌝ }
+{
+    if b == 0x00 {
+        return true;
+    }
+    b == 0xff
+}
+
+// Whether a byte is of a sort.
+pub fn is(sort: Sort, b: u8) -> bool
+    ensures { λ r. ⌜ r ≡ isOf sort b ⌝ }
+{
+    match sort {
+        Sort::Raw => b != 0x7e,
+        Sort::Idle => is_idle(b),
+        Sort::Noise => {
+            if b == 0x7e {
+                return false;
+            }
+            !is_idle(b)
+        }
+        Sort::Plain => {
+            if b == 0x7e {
+                return false;
+            }
+            !is_fenced(b)
+        }
+    }
+}
+
+// Whether none of the eight bytes at i is x.
+fn none8(s: &[u8], i: usize, x: u8) -> bool
+    requires { ⌜ i + 8 ≤ length (now s) ⌝ }
+    ensures { λ r. ⌜ (r ≡ true → All (λ b. not (eqb b x)) (now (s .entry)) i 8) ⌝ }
+{
+    let mut e: u8 = 0;
+    let mut k = 0;
+    while k < 8 {
+        if s[i + k] == x {
+            e = 1;
+        }
+        k += 1;
+    }
+    e == 0
+}
+
+// Whether each of the eight bytes at i is 00 or ff.
+fn idle8(s: &[u8], i: usize) -> bool
+    requires { ⌜ i + 8 ≤ length (now s) ⌝ }
+    ensures { λ r. ⌜ (r ≡ true → All idle (now (s .entry)) i 8) ⌝ }
+{
+    let mut e: u8 = 0;
+    let mut k = 0;
+    while k < 8 {
+        if !is_idle(s[i + k]) {
+            e = 1;
+        }
+        k += 1;
+    }
+    e == 0
+}
+
+// Whether none of the eight bytes at i is 23 to 25 or a3 to a5.
+fn open8(s: &[u8], i: usize) -> bool
+    requires { ⌜ i + 8 ≤ length (now s) ⌝ }
+    ensures { λ r. ⌜ (r ≡ true → All (λ b. not (fenced b)) (now (s .entry)) i 8) ⌝ }
+{
+    let mut e: u8 = 0;
+    let mut k = 0;
+    while k < 8 {
+        if is_fenced(s[i + k]) {
+            e = 1;
+        }
+        k += 1;
+    }
+    e == 0
+}
+
+// Whether the eight bytes at i are of a sort. It may say no where they are.
+fn all8(sort: Sort, s: &[u8], i: usize) -> bool
+    requires { ⌜ i + 8 ≤ length (now s) ⌝ }
+    ensures { λ r. ⌜ (r ≡ true → All (isOf sort) (now (s .entry)) i 8) ⌝ }
+{
+    match sort {
+        Sort::Raw => none8(s, i, 0x7e),
+        Sort::Idle => idle8(s, i),
+        Sort::Noise => {
+            if none8(s, i, 0x7e) {
+                if none8(s, i, 0x00) {
+                    return none8(s, i, 0xff);
+                }
+            }
+            false
+        }
+        Sort::Plain => {
+            if none8(s, i, 0x7e) {
+                return open8(s, i);
+            }
+            false
+        }
+    }
+}
+
+// How many bytes of a sort stand at i.
+pub fn run(sort: Sort, s: &[u8], i: usize) -> usize
+    ensures { λ r. ⌜ r ≡ lead (isOf sort) (drop i (now (s .entry))) ⌝ }
+{
+    let n = s.len();
+    if n <= i {
+        return 0;
+    }
+    let left = n - i;
+    let mut m = 0;
+    while m + 8 <= left {
+        if !all8(sort, s, i + m) {
+            break;
+        }
+        m += 8;
+    }
+    while m < left {
+        if !is(sort, s[i + m]) {
+            break;
+        }
+        m += 1;
+    }
+    m
+}
+
+// Copies the eight bytes of s at i to d at l.
+fn copy8(d: &mut [u8], l: usize, s: &[u8], i: usize)
+    requires { ⌜ (i + 8 ≤ length (now s)) × (l + 8 ≤ length (now d)) ⌝ }
+    ensures { λ _. ⌜ now (d .exit) ≡ laid (now (d .entry)) l (now (s .entry)) i 8 ⌝ }
+{
+    let mut k = 0;
+    while k < 8 {
+        d[l + k] = s[i + k];
+        k += 1;
+    }
+}
+
+// Copies the bytes of a sort that stand at i, as many as there is room for, to d at l.
+pub fn copy_run(sort: Sort, d: &mut [u8], l: usize, s: &[u8], i: usize) -> usize
+    ensures count { λ r. ⌜ r ≡ lead (isOf sort) (take (length (now (d .entry)) - l) (drop i (now (s .entry)))) ⌝ }
+    ensures bytes { λ r. ⌜ now (d .exit) ≡ paste (now (d .entry)) l (drop i (now (s .entry))) r ⌝ }
+{
+    if s.len() <= i {
+        return 0;
+    }
+    if d.len() <= l {
+        return 0;
+    }
+    let left = s.len() - i;
+    let room = d.len() - l;
+    let most = if left < room { left } else { room };
+    let mut m = 0;
+    while m + 8 <= most {
+        if !all8(sort, s, i + m) {
+            break;
+        }
+        copy8(d, l + m, s, i + m);
+        m += 8;
+    }
+    while m < most {
+        let b = s[i + m];
+        if !is(sort, b) {
+            break;
+        }
+        d[l + m] = b;
+        m += 1;
+    }
+    m
+}
