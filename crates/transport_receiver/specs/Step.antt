@@ -7,6 +7,7 @@ use lib.ListN.{length, getD, take, drop}
 use lib.Dec.{eqb, ltb}
 use Rattle.laws.specs.Bytes.{be16At}
 use Rattle.address.specs.Address.{idLimit, gatewayOf, isFrom, addressOf}
+use Rattle.link.specs.Wire.{payloadLimit}
 use Rattle.utf8.specs.Scan.{isText}
 use Rattle.network.specs.Split.{tallyOf}
 use Rattle.transport.specs.Status.{acceptedOf, neededOf, slotCounterAt}
@@ -92,7 +93,7 @@ abbrev pub rowsOfAny : State → Frame → List Row → List Row
 rowsOfAny s f rows =
     row (overLimit (s .commands)) (refused 12) none
     ∷ row (ltb idLimit (f .gateway)) (refused 13) none
-    ∷ row (ltb 250 (length (f .payload))) (refused 32) none
+    ∷ row (ltb payloadLimit (length (f .payload))) (refused 32) none
     ∷ rows
 
 -- .. 31, 20, 24, 21 (for a receive response 23 if under 2 bytes, then 22, then 23), 28, 29, 26, 27, 25, 30.
