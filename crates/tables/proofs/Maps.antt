@@ -3,7 +3,7 @@ use mathlib.Core.Path.{_≡_, refl, sym, _∙_, ap}
 use Prim.Native.Nat.{ℕ, zero, suc, _+_, _≤_, _<_}
 use mathlib.Core.Bool.{Bool, true, false, cond, not, _||_}
 use mathlib.Core.List.{List, [], _∷_}
-use mathlib.Core.Option.{Option, none, some}
+use mathlib.Core.Option.{Option, none, some, Option·getD}
 use native.Mathlib.Omega.{arith}
 use lib.ListN.{length, getD, set, length-set, List·getD-eq-default}
 use lib.Seq.{getD-set-same, getD-set-other, set-out}
@@ -75,7 +75,7 @@ module _ {A : Type 0} where
         (λ t. firstWith-before (holds k) ps i (omega (arith, ltb-true i (length ps) t, ltb-false (holder ps k) (length ps) e)))
         (λ t. rw (List·getD-eq-default ps free (ltb-false i (length ps) t)))
 
-    holder-holds : isHeld ps k ≡ true → holds k (getD ps (holder ps k) free) ≡ true
+    pub holder-holds : isHeld ps k ≡ true → holds k (getD ps (holder ps k) free) ≡ true
     holder-holds e = firstWith-passes (holds k) ps (ltb-true (holder ps k) (length ps) e)
 
     -- no place before the seat holds the key
@@ -190,3 +190,29 @@ module _ {A : Type 0} where
           gone : (p : Place A) → valueIn p ≡ none → holds k p ≡ true → false ≡ true
           gone free e h = h
           gone (held i v) e h = absurd (let z : _≡_ {A = ℕ} 0 1 = cc in omega arith)
+
+  -- a look-up of a key that is not held gives nothing, of one that is held something
+  pub valueAt-unheld : (ps : List (Place A)) (k : ℕ) → isHeld ps k ≡ false → valueAt ps k ≡ none
+  valueAt-unheld ps k e = ap valueIn (List·getD-eq-default ps free (ltb-false (holder ps k) (length ps) e))
+
+  pub valueAt-isHeld : (ps : List (Place A)) (k : ℕ) (z : A) → isHeld ps k ≡ true → valueAt ps k ≡ some (Option·getD (valueAt ps k) z)
+  valueAt-isHeld ps k z e = something (getD ps (holder ps k) free) (holder-holds ps k e)
+    where
+      something : (p : Place A) → holds k p ≡ true → valueIn p ≡ some (Option·getD (valueIn p) z)
+      something free h = never h
+      something (held j v) h = refl
+
+  -- storing under another key, and taking any key out, leave a key that is not held not held
+  pub valueAt-stored-other : (ps : List (Place A)) (k : ℕ) (v : A) (j : ℕ) → (j ≡ k → ⊥) → valueAt (stored ps k v) j ≡ valueAt ps j
+  valueAt-stored-other ps k v j n = set-unseen ps (seat ps k) (held k v) j (seat-other ps k j n) (ne-eqb k j (λ p. n (sym p)))
+
+  pub valueAt-removed-unheld : (ps : List (Place A)) (k j : ℕ) → isHeld ps j ≡ false → valueAt (removed ps k) j ≡ none
+  valueAt-removed-unheld ps k j e = set-unseen ps (holder ps k) free j (not-held ps j e (holder ps k)) refl ∙ valueAt-unheld ps j e
+
+  -- what a look-up gives says whether a key is held
+  pub unheld-valueAt : (ps : List (Place A)) (k : ℕ) → valueAt ps k ≡ none → isHeld ps k ≡ false
+  unheld-valueAt ps k e = by (isHeld ps k) (λ t. absurd (clash (getD ps (holder ps k) free) e (holder-holds ps k t))) (λ t. t)
+    where
+      clash : (p : Place A) → valueIn p ≡ none → holds k p ≡ true → ⊥
+      clash free a h = never h
+      clash (held j v) a h = let z : _≡_ {A = ℕ} 0 1 = cc in omega arith

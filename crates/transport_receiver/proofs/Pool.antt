@@ -11,7 +11,7 @@ use borrow.Author.Tests.{eqb-true, eqb-false, eq-eqb, ne-eqb, lt-ltb, le-ltb, lt
 use Rattle.tables.specs.Keys.{firstOf, seatOf, overOf}
 use Rattle.tables.specs.Places.{Place, free, held, placeOf, placesFrom, placesOf, stored}
 use Rattle.tables.proofs.Places.{stored-places}
-use Rattle.transport_receiver.specs.State.{Command, commandIn, payloadAt, roomOfCommand}
+use Rattle.transport_receiver.specs.State.{Command, commandKey, commandIn, payloadAt, roomOfCommand}
 use Rattle.transport_receiver.specs.Step.{isOver, overLimit}
 
 -- a claim proved for either value of a test
@@ -129,3 +129,7 @@ module _ (keys types lengths pool : List ℕ) (k t : ℕ) (q : List ℕ) (tn : l
       other : (j : ℕ) → (j ≡ i → ⊥) → (getD keys j 0 ≡ 0 → ⊥) → commandIn (set types i t) (set lengths i (length q)) (paste pool (i * 245) q (length q)) j ≡ commandIn types lengths pool j
       other j ne full =
           rw (getD-set-other types i j t 0 ne, getD-set-other lengths i j (length q) 0 ne, payload-other pool i q pn place few j (getD lengths j 0) ne (held-low keys lengths 245 within j (inside keys j full) full))
+
+-- gateway and sequence as one number say both: two commands under one key have one gateway and one sequence
+pub commandKey-apart : (g h s t : ℕ) → s < 256 → t < 256 → commandKey g s ≡ commandKey h t → (g ≡ h) × (s ≡ t)
+commandKey-apart g h s t a b e = (omega arith, omega arith)

@@ -19,14 +19,14 @@ use Rattle.transport_receiver.specs.Reached.{Reached, start, on, AllDist
 use Rattle.transport_receiver.proofs.Pool.{by}
 
 -- a table with no key at all
-all-free : {A : Type 0} (n : ℕ) (values : ℕ → A) → Distinct (placesOf (replicate n 0) values)
-all-free {A} n values i j k a b = absurd (let z : _≡_ {A = ℕ} 0 1 = cc (none i ∙ refl) in omega arith)
-  where
-    zero-at : (i : ℕ) → _≡_ {A = ℕ} (getD (replicate n 0) i 0) 0
-    zero-at i = by (ltb i n) (λ t. getD-replicate n i 0 0 (ltb-true i n t)) (λ t. List·getD-eq-default (replicate n 0) 0 (omega (arith, ltb-false i n t, length-replicate {A = ℕ} n 0)))
+zero-at : (n i : ℕ) → _≡_ {A = ℕ} (getD (replicate n 0) i 0) 0
+zero-at n i = by (ltb i n) (λ t. getD-replicate n i 0 0 (ltb-true i n t)) (λ t. List·getD-eq-default (replicate n 0) 0 (omega (arith, ltb-false i n t, length-replicate {A = ℕ} n 0)))
 
-    none : (i : ℕ) → holds k (getD (placesOf (replicate n 0) values) i free) ≡ false
-    none i = rw (getD-places values (replicate n 0) i, zero-at i)
+pub all-free-at : {A : Type 0} (n : ℕ) (values : ℕ → A) (i k : ℕ) → holds k (getD (placesOf (replicate n 0) values) i free) ≡ false
+all-free-at n values i k = rw (getD-places values (replicate n 0) i, zero-at n i)
+
+all-free : {A : Type 0} (n : ℕ) (values : ℕ → A) → Distinct (placesOf (replicate n 0) values)
+all-free n values i j k a b = absurd (let z : _≡_ {A = ℕ} 0 1 = cc (all-free-at n values i k) in omega arith)
 
 distinct-fresh : AllDistinct (stateOf fresh)
 unfolding stateOf
@@ -80,7 +80,7 @@ over-freed (p ∷ ps) (suc i) e = go (isOver p) e (over-freed ps i)
     go true e r = absurd (let z : _≡_ {A = ℕ} 0 1 = cc in omega arith)
     go false e r = r e
 
-clash : {P : Type 0} {n : ℕ} {e : Event} → refused n ≡ event e → P
+pub clash : {P : Type 0} {n : ℕ} {e : Event} → refused n ≡ event e → P
 clash q = absurd (let z : _≡_ {A = ℕ} 0 1 = cc in omega arith)
 
 -- a response that found its request, given again, gets 30: its request is gone until a new one is stored

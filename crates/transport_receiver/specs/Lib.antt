@@ -5,3 +5,4 @@ pub mod Lent
 pub mod Step
 pub mod Handed
 pub mod Reached
+pub mod Source

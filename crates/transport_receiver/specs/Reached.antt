@@ -1,7 +1,11 @@
 -- The states that frames lead to from a fresh receiver, and what holds of them. Assumes nothing.
+use mathlib.Core.Path.{_≡_}
+use Prim.Native.Nat.{ℕ}
+use mathlib.Core.Bool.{Bool, true, false}
 use Rattle.tables.specs.Places.{Distinct}
+use Rattle.transport_receiver.specs.Types
 use Rattle.transport_receiver.specs.State.{State, Frame, stateOf, fresh}
-use Rattle.transport_receiver.specs.Step.{stepOf}
+use Rattle.transport_receiver.specs.Step.{stepOf, keyOf, Outcome, refused, short, silent, event}
 
 pub data Reached : State → Type 0 where
   start : Reached (stateOf fresh)
@@ -12,3 +16,21 @@ pub record AllDistinct (s : State) : Type 0 where
   pub numbers : Distinct (s .numbers)
   pub sequences : Distinct (s .sequences)
   pub commands : Distinct (s .commands)
+
+-- frames that lead from one state to another, none of them a command request under the key k
+pub data Since (k : ℕ) (s : State) : State → Type 0 where
+  here : Since k s s
+  on : {t : State} → Since k s t → (f : Frame) → (f .kind ≡ Types.command-request → keyOf f ≡ k → ⊥) → Since k s (stepOf t f .state)
+
+-- a number of 01's table, 23 among them
+abbrev pub isRefusal : Outcome → Bool
+isRefusal (refused n) = true
+isRefusal (short n) = true
+isRefusal silent = false
+isRefusal (event e) = false
+
+-- two states with the same entries at the same places
+pub record SameTables (s t : State) : Type 0 where
+  pub numbers : t .numbers ≡ s .numbers
+  pub sequences : t .sequences ≡ s .sequences
+  pub commands : t .commands ≡ s .commands

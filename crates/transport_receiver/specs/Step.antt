@@ -1,5 +1,5 @@
 -- What a sound frame means: 01's refusals in their order, and what an accepted frame does. Assumes nothing.
-use Prim.Native.Nat.{ℕ, _+_, _*_, _%_, _^_}
+use Prim.Native.Nat.{ℕ}
 use mathlib.Core.Bool.{Bool, true, false, cond, not, _&&_, _||_}
 use mathlib.Core.List.{List, [], _∷_}
 use mathlib.Core.Option.{Option, none, some}
@@ -7,6 +7,7 @@ use lib.ListN.{length, getD, take, drop}
 use lib.Dec.{eqb, ltb}
 use Rattle.laws.specs.Bytes.{be16At}
 use Rattle.address.specs.Address.{idLimit, gatewayOf, isFrom, addressOf}
+use Rattle.link.specs.Wire.{payloadLimit}
 use Rattle.utf8.specs.Scan.{isText}
 use Rattle.network.specs.Split.{tallyOf}
 use Rattle.transport.specs.Status.{acceptedOf, neededOf, slotCounterAt}
@@ -92,7 +93,7 @@ abbrev pub rowsOfAny : State → Frame → List Row → List Row
 rowsOfAny s f rows =
     row (overLimit (s .commands)) (refused 12) none
     ∷ row (ltb idLimit (f .gateway)) (refused 13) none
-    ∷ row (ltb 250 (length (f .payload))) (refused 32) none
+    ∷ row (ltb payloadLimit (length (f .payload))) (refused 32) none
     ∷ rows
 
 -- .. 31, 20, 24, 21 (for a receive response 23 if under 2 bytes, then 22, then 23), 28, 29, 26, 27, 25, 30.
@@ -217,8 +218,10 @@ abbrev pub judged : List Row → State → Frame → Result
 judged [] s f = accepted s f
 judged (r ∷ rs) s f = cond (r .holds) (refuse s r) (judged rs s f)
 
+-- behind 12, 13 and 32
 unfoldable pub handledOf : State → Frame → Result
 handledOf s f = judged (rowsOfType s f) s f
 
+-- the whole step: what a frame hands back, and the tables and counters after it
 unfoldable pub stepOf : State → Frame → Result
 stepOf s f = judged (rowsOfAny s f (rowsOfType s f)) s f
