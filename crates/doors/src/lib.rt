@@ -14,8 +14,10 @@ ghost use Rattle.utf8.specs.Utf8.{Text};
 ghost use Rattle.doors.specs.Numbered.{numbered};
 ghost use Rattle.doors.specs.Addresses.{directed, toward};
 
+pub mod dispatch;
 pub mod payloads;
 pub mod receiver;
+pub mod slots;
 
 // The check of a slice.
 #[no_mangle]

@@ -7,7 +7,10 @@ use driver::make;
 use driver::oracle::{self, Plain};
 use driver::rng::Rng;
 use std::hint::black_box;
-use taptap::gateway::link::{self, Frame};
+use taptap::gateway::link::{self, Frame, GatewayID};
+use taptap::gateway::transport;
+use taptap::pv::network::ReceivedPacketHeader;
+use taptap::pv::{LongAddress, PacketType, SlotCounter};
 
 struct Row {
     name: &'static str,
@@ -160,6 +163,85 @@ fn check_row(name: &'static str, size: usize, slice: usize) -> Row {
     }
 }
 
+// ---- link and transport
+
+/// A sink of events that adds up the lengths of what they carry.
+#[derive(Debug, Default)]
+struct Told(u64);
+
+impl transport::Sink for Told {
+    fn enumeration_started(&mut self, gateway: GatewayID) {
+        self.0 += u64::from(u16::from(gateway));
+    }
+    fn gateway_identity_observed(&mut self, _: GatewayID, address: LongAddress) {
+        self.0 += u64::from(address.0[7]);
+    }
+    fn gateway_version_observed(&mut self, _: GatewayID, version: &str) {
+        self.0 += version.len() as u64;
+    }
+    fn enumeration_ended(&mut self, _: GatewayID) {
+        self.0 += 1;
+    }
+    fn gateway_slot_counter_captured(&mut self, _: GatewayID) {
+        self.0 += 1;
+    }
+    fn gateway_slot_counter_observed(&mut self, _: GatewayID, slot: SlotCounter) {
+        self.0 += u64::from(u16::from(slot));
+    }
+    fn packet_received(&mut self, _: GatewayID, _: &ReceivedPacketHeader, data: &[u8]) {
+        self.0 += data.len() as u64;
+    }
+    fn command_executed(&mut self, _: GatewayID, request: (PacketType, &[u8]), response: (PacketType, &[u8])) {
+        self.0 += (request.1.len() + response.1.len()) as u64;
+    }
+}
+
+fn rust_whole(s: &[u8]) -> u64 {
+    let mut r = link::Receiver::new(transport::Receiver::new(Told::default()));
+    r.extend_from_slice(s);
+    let c = r.sink().counters();
+    r.sink().sink().0.wrapping_add(c.receive_packets).wrapping_add(c.command_responses << 32)
+}
+
+fn our_whole(s: &[u8]) -> u64 {
+    let mut r = ours::Receiver::new();
+    let mut t = Box::new(doors::transport::Transport::new());
+    let mut sum = 0;
+    let mut at = 0;
+    while at < s.len() {
+        if r.feed(&s[at..]) == Ok(1) {
+            let address = r.found[1] as u16;
+            let payload = &r.body[4..4 + r.found[3] as usize];
+            sum += our_event(&mut t, address, r.found[2] as u16, payload);
+        }
+        at += r.found[0] as usize;
+    }
+    let c = &t.counters;
+    sum.wrapping_add(c[6]).wrapping_add(c[13] << 32)
+}
+
+/// The same sum for what one frame says.
+fn our_event(t: &mut doors::transport::Transport, address: u16, kind: u16, payload: &[u8]) -> u64 {
+    match t.step(address >= 0x8000, address & 0x7fff, kind, payload) {
+        Ok(1) => t.news[0],
+        Ok(2) => u64::from(payload[7]),
+        Ok(3) => payload.len() as u64,
+        Ok(4) | Ok(5) => 1,
+        Ok(6) => {
+            let area = &payload[t.news[3] as usize..];
+            let mut sum = t.news[1];
+            let mut at = 0;
+            while let doors::Found::Packet(start, end) = doors::packet_at(area, at) {
+                sum += (end - start) as u64;
+                at = end;
+            }
+            sum
+        }
+        Ok(8) => t.news[2] + payload.len() as u64 - 5,
+        _ => 0,
+    }
+}
+
 // ---- encode
 
 /// Frames of a capture's mixture, encoded one by one: by the Rust into a new `Vec`, by ours into one lent buffer that is never cleared.
@@ -206,7 +288,14 @@ fn main() {
     rows.push(encode_row("encode, payloads of 0 to 14", frames(&mut rng, 0, 14)));
     rows.push(encode_row("encode, payloads of 20 to 120", frames(&mut rng, 20, 120)));
     rows.push(encode_row("encode, payloads of 194 to 250", frames(&mut rng, 194, 250)));
-    receiver_rows(&mut rows, "receiver, capture: ledger", "receiver, capture: frames handed out", make::capture(1, size));
+    let capture: &'static [u8] = Box::leak(make::capture(1, size).into_boxed_slice());
+    rows.push(Row {
+        name: "link and transport, capture: all events",
+        bytes: capture.len(),
+        rust: Box::new(move || rust_whole(black_box(capture))),
+        ours: Box::new(move || our_whole(black_box(capture))),
+    });
+    receiver_rows(&mut rows, "receiver, capture: ledger", "receiver, capture: frames handed out", capture.to_vec());
     let short = repeated(size, || {
         let n = rng.within(0, 14);
         frame(&mut rng, n).encode()

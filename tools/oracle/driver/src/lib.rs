@@ -4,5 +4,6 @@ pub mod doors;
 pub mod make;
 pub mod oracle;
 pub mod rng;
+pub mod say;
 pub mod show;
 pub mod shrink;

@@ -1,28 +1,44 @@
 //! The differential run: the Rust and the proved side on the same inputs. Ends with a count and 'no difference', or with the
 //! first difference and the smallest input found for it.
 //!
-//!     diff [SEED [SCALE]]
-use driver::compare::{leaves, link, payloads, Run};
+//!     diff [SEED [SCALE [PART]]]      PART: leaves, payloads, link or transport alone
+use driver::compare::{leaves, link, payloads, transport, Run};
+use driver::say;
 
 fn main() {
-    let mut words = std::env::args().skip(1).map(|w| w.parse().expect("diff [SEED [SCALE]]: numbers"));
-    let seed = words.next().unwrap_or(1);
-    let scale = words.next().unwrap_or(1) as usize;
+    let words: Vec<String> = std::env::args().skip(1).collect();
+    let number = |i: usize| words.get(i).map_or(1, |w| w.parse().expect("diff [SEED [SCALE [PART]]]"));
+    let (seed, scale) = (number(0), number(1) as usize);
+    let part = |name: &str| words.get(2).map_or(true, |w| w == name);
     let mut run = Run { seed, scale, cases: 0 };
-    println!("seed {seed}, scale {scale}");
-    leaves::check(&mut run);
-    leaves::unescape(&mut run);
-    leaves::escape(&mut run);
-    leaves::address(&mut run);
-    leaves::encode(&mut run);
-    leaves::text(&mut run);
-    payloads::packets(&mut run);
-    payloads::status(&mut run);
-    payloads::numbers(&mut run);
-    link::exhaustive(&mut run);
-    link::limits(&mut run);
-    link::random(&mut run);
-    link::made_up(&mut run);
-    link::captures(&mut run);
-    println!("{} cases, no difference", run.cases);
+    say::quiet();
+    say::say(&format!("seed {seed}, scale {scale}"));
+    if part("leaves") {
+        leaves::check(&mut run);
+        leaves::unescape(&mut run);
+        leaves::escape(&mut run);
+        leaves::address(&mut run);
+        leaves::encode(&mut run);
+        leaves::text(&mut run);
+    }
+    if part("payloads") {
+        payloads::packets(&mut run);
+        payloads::status(&mut run);
+        payloads::numbers(&mut run);
+        payloads::responses(&mut run);
+        payloads::slots(&mut run);
+    }
+    if part("link") {
+        link::exhaustive(&mut run);
+        link::limits(&mut run);
+        link::random(&mut run);
+        link::made_up(&mut run);
+        link::captures(&mut run);
+    }
+    if part("transport") {
+        transport::steps(&mut run);
+        transport::refused(&mut run);
+        transport::captures(&mut run);
+    }
+    say::say(&format!("{} cases, no difference", run.cases));
 }

@@ -1,10 +1,12 @@
 //! The parts of the differential run.
 use crate::rng::Rng;
+use crate::say::say;
 use crate::{show, shrink};
 
 pub mod leaves;
 pub mod link;
 pub mod payloads;
+pub mod transport;
 
 pub struct Run {
     pub seed: u64,
@@ -19,12 +21,12 @@ impl Run {
     }
 
     pub fn done(&mut self, name: &str, cases: u64) {
-        println!("{cases:>9}  {name}");
+        say(&format!("{cases:>9}  {name}"));
         self.cases += cases;
     }
 
     pub fn differ(&self, name: &str, what: &str) -> ! {
-        println!("DIFFERENCE in {name} (seed {}): {what}", self.seed);
+        say(&format!("DIFFERENCE in {name} (seed {}): {what}", self.seed));
         std::process::exit(1);
     }
 

@@ -3,6 +3,7 @@ use super::Run;
 use crate::rng::Rng;
 use crate::{doors, make};
 use taptap::gateway::transport::{InvalidReceiveResponse, ReceiveResponse};
+use taptap::pv::link::{SlotCounter, SlotEpoch, SlotNumber};
 use taptap::pv::network::ReceivedPackets;
 
 /// Where each packet's data starts and ends by the Rust's own walk, whether the area ends too short, and the two counts.
@@ -121,4 +122,98 @@ pub fn numbers(run: &mut Run) {
         }
     }
     run.done(name, 1 << 24);
+}
+
+fn read(payload: &[u8], old: u16) -> Result<[u64; 7], (u64, u64)> {
+    let byte = |b: Option<u8>| b.map_or(1 << 16, u64::from);
+    let pair = |p: Option<[u8; 2]>| p.map_or(1 << 16, |p| u64::from(u16::from_be_bytes(p)));
+    match ReceiveResponse::read_from_bytes(payload, old) {
+        Ok((r, area)) => Ok([
+            byte(r.rx_buffers_used),
+            byte(r.tx_buffers_free),
+            pair(r.unknown_a),
+            pair(r.unknown_b),
+            u64::from(r.packet_number),
+            u64::from(u16::from(r.slot_counter)),
+            (payload.len() - area.0.len()) as u64,
+        ]),
+        Err(InvalidReceiveResponse::UnknownStatusType(s)) => Err((22, u64::from(s))),
+        Err(InvalidReceiveResponse::TooShort(n)) => Err((23, n as u64)),
+    }
+}
+
+pub fn responses(run: &mut Run) {
+    let name = "receive responses: every low status byte, payloads of every length to 40, random fields and numbers";
+    let mut rng = run.part("responses");
+    let mut n = 0;
+    for status in 0..=255 {
+        for len in 0..=40 {
+            for _ in 0..4 * run.scale {
+                let mut payload = rng.bytes(len);
+                if len > 1 {
+                    payload[1] = status;
+                }
+                let old = rng.word();
+                run.same(name, &payload, &|p| read(p, old), &|p| doors::receive_response(p, old));
+                n += 1;
+            }
+        }
+    }
+    run.done(name, n);
+}
+
+const EPOCHS: [SlotEpoch; 4] = [SlotEpoch::Epoch0, SlotEpoch::Epoch4, SlotEpoch::Epoch8, SlotEpoch::EpochC];
+
+pub fn slots(run: &mut Run) {
+    let name = "slot counters: every counter's epoch and number, every epoch and number made, every epoch addition";
+    let mut n = 0;
+    for c in 0..=u16::MAX {
+        let rust = SlotCounter::from(c);
+        let number = rust.slot_number().map(u16::from).map_err(|e| e.0);
+        if (rust.epoch() as u8, number) != (doors::slot_epoch(c), doors::slot_number(c)) {
+            run.differ(name, &format!("on {c:04x}: the Rust {:?} {number:?}, ours {} {:?}", rust.epoch(), doors::slot_epoch(c), doors::slot_number(c)));
+        }
+        for place in 0..4 {
+            let rust = SlotNumber::try_from(c).map(|n| u16::from(SlotCounter::new(EPOCHS[usize::from(place)], n))).map_err(|e| e.0);
+            if rust != doors::slot_counter(place, c) {
+                run.differ(name, &format!("new of epoch {place} and {c:04x}: the Rust {rust:?}, ours {:?}", doors::slot_counter(place, c)));
+            }
+        }
+        n += 5;
+    }
+    for place in 0..4 {
+        for more in 0..=255 {
+            let rust = (EPOCHS[usize::from(place)] + more) as u8;
+            let mut assigned = EPOCHS[usize::from(place)];
+            assigned += more;
+            if rust != doors::epoch_add(place, more) || assigned as u8 != rust {
+                run.differ(name, &format!("epoch {place} and {more}: the Rust {rust}, ours {}", doors::epoch_add(place, more)));
+            }
+            n += 1;
+        }
+    }
+    run.done(name, n);
+
+    let name = "slots_since: every counter against 120 others on a grid of the limits and at random, both ways";
+    let mut rng = run.part("slots");
+    let mut others: Vec<u16> = Vec::new();
+    for epoch in [0x0000, 0x4000, 0x8000, 0xc000] {
+        others.extend([0, 1, 2, 5999, 6000, 11_998, 11_999, 12_000, 12_001, 0x3fff].map(|n: u16| epoch | n));
+    }
+    while others.len() < 120 {
+        others.push(rng.word());
+    }
+    let mut n = 0;
+    for c in 0..=u16::MAX {
+        for p in others.iter().copied().chain([c]) {
+            for (a, b) in [(c, p), (p, c)] {
+                let rust = SlotCounter::from(a).slots_since(&SlotCounter::from(b)).map_err(|e| e.0);
+                if rust != doors::slots_since(a, b) {
+                    run.differ(name, &format!("{a:04x} since {b:04x}: the Rust {rust:?}, ours {:?}", doors::slots_since(a, b)));
+                }
+                n += 1;
+            }
+        }
+    }
+    run.done(name, n);
 }

@@ -2,6 +2,7 @@
 
 
 pub mod link;
+pub mod transport;
 
 extern "C" {
     fn johkkesir_crc(buffer: *const u8, len: usize) -> u16;
@@ -18,6 +19,12 @@ extern "C" {
     fn johkkesir_accepted(status: u16) -> bool;
     fn johkkesir_needed(status: u16) -> usize;
     fn johkkesir_interpret_packet_number_lo(lo: u8, old: u16) -> u16;
+    fn johkkesir_slot_number(counter: u16) -> u32;
+    fn johkkesir_slot_epoch(counter: u16) -> u8;
+    fn johkkesir_slots_since(counter: u16, past: u16) -> u32;
+    fn johkkesir_epoch_add(place: u8, n: u8) -> u8;
+    fn johkkesir_slot_counter(place: u8, number: u16) -> u32;
+    fn johkkesir_receive_response(payload: *const u8, len: usize, old: u16, fields: *mut [u64; 7]) -> u64;
 }
 
 /// A value, or the number of 01's table by which it is refused.
@@ -103,4 +110,45 @@ pub fn interpret_packet_number_lo(lo: u8, old: u16) -> u16 {
 
 pub fn encode(from: bool, id: u16, kind: u16, payload: &[u8], out: &mut [u8]) -> Answer {
     answer(unsafe { johkkesir_encode(from, id, kind, payload.as_ptr(), payload.len(), out.as_mut_ptr(), out.len()) })
+}
+
+/// A slot number or count of slots, or the value that is no slot number.
+pub type Slots = Result<u16, u16>;
+
+fn slots(n: u32) -> Slots {
+    if n < 1 << 16 {
+        Ok(n as u16)
+    } else {
+        Err(n as u16)
+    }
+}
+
+pub fn slot_number(counter: u16) -> Slots {
+    slots(unsafe { johkkesir_slot_number(counter) })
+}
+
+pub fn slot_epoch(counter: u16) -> u8 {
+    unsafe { johkkesir_slot_epoch(counter) }
+}
+
+pub fn slots_since(counter: u16, past: u16) -> Slots {
+    slots(unsafe { johkkesir_slots_since(counter, past) })
+}
+
+pub fn epoch_add(place: u8, n: u8) -> u8 {
+    unsafe { johkkesir_epoch_add(place, n) }
+}
+
+pub fn slot_counter(place: u8, number: u16) -> Slots {
+    slots(unsafe { johkkesir_slot_counter(place, number) })
+}
+
+/// The fields of a receive response in the order of their bytes, 65,536 for one that is missing, and where its packet area starts; or 22 with the
+/// status word, or 23 with the length needed.
+pub fn receive_response(payload: &[u8], old: u16) -> Result<[u64; 7], (u64, u64)> {
+    let mut fields = [0; 7];
+    match answer(unsafe { johkkesir_receive_response(payload.as_ptr(), payload.len(), old, &mut fields) }) {
+        Ok(_) => Ok(fields),
+        Err(number) => Err((number, fields[0])),
+    }
 }

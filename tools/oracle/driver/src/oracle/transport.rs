@@ -1,5 +1,6 @@
 //! The Rust's transport receiver: counters, events and tables as plain values.
 use super::Plain;
+use std::fmt::Write;
 use taptap::gateway::link::{GatewayID, Sink as _};
 use taptap::gateway::transport::{Counters, Receiver, Sink};
 use taptap::pv::network::ReceivedPacketHeader;
@@ -13,8 +14,15 @@ pub struct Event {
     pub body: Vec<u8>,
 }
 
-#[derive(Debug, Clone, Default)]
+#[derive(Clone, Default)]
 pub struct Events(pub Vec<Event>);
+
+/// Empty, so that the tables come first in the receiver's text.
+impl std::fmt::Debug for Events {
+    fn fmt(&self, _: &mut std::fmt::Formatter) -> std::fmt::Result {
+        Ok(())
+    }
+}
 
 impl Events {
     fn push(&mut self, kind: u8, gateway: GatewayID, body: Vec<u8>) {
@@ -143,7 +151,16 @@ impl Transport {
         std::mem::take(&mut self.0.sink_mut().0)
     }
 
-    /// The tables, read off the `Debug` text, which is all that shows them. The events are to be taken first.
+    /// The packet numbers by gateway, read off the start of the `Debug` text.
+    pub fn numbers(&self) -> Vec<(u16, u16)> {
+        let mut head = Head { text: String::new() };
+        let _ = write!(head, "{:?}", self.0);
+        let at = head.text.find("rx_packet_numbers: {").expect("a table") + "rx_packet_numbers: {".len();
+        let end = at + head.text[at..].find('}').expect("its end");
+        numbers_in(&head.text[at..end]).chunks(2).map(|p| (p[0] as u16, p[1] as u16)).collect()
+    }
+
+    /// The tables, read off the `Debug` text, which is all that shows them.
     pub fn tables(&self) -> Tables {
         let text = format!("{:?}", self.0);
         let part = |from: &str, to: &str| -> Vec<u64> {
@@ -159,6 +176,22 @@ impl Transport {
             numbers: numbers.chunks(2).map(|p| (p[0] as u16, p[1] as u16)).collect(),
             sequences: sequences.chunks(2).map(|p| (p[0] as u16, p[1] as u8)).collect(),
             waiting: text[at..end].split("(GatewayID(").filter(|e| !e.is_empty()).map(waiting).collect(),
+        }
+    }
+}
+
+/// Takes a text up to the end of its first table.
+struct Head {
+    text: String,
+}
+
+impl Write for Head {
+    fn write_str(&mut self, s: &str) -> std::fmt::Result {
+        self.text.push_str(s);
+        if s.contains('}') {
+            Err(std::fmt::Error)
+        } else {
+            Ok(())
         }
     }
 }

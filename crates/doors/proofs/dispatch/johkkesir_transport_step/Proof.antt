@@ -1,0 +1,33 @@
+-- `doors::dispatch::johkkesir_transport_step` steps the state that it is lent and lays out the answer. Assumes nothing.
+use mathlib.Core.Path.{_≡_}
+use borrow.Author.Needs.{needs}
+use Rattle.doors.proofs.dispatch.johkkesir_transport_step.Statement.{statement}
+use Rattle.doors.proofs.dispatch.johkkesir_transport_step.Tie as tie
+
+address-toward-requires : tie.Need-address-toward-requires
+address-toward-requires c κs = search needs
+
+step-in-requires : tie.Need-step-in-requires
+step-in-requires c κs = search needs
+
+news-by-requires : tie.Need-news-by-requires
+news-by-requires c κs = search needs
+
+answer-number-requires : tie.Need-answer-number-requires
+answer-number-requires c κs = search needs
+
+returns : tie.Need-returns
+returns c =
+    let s = c .before .before .step-in .ensures in
+    let a = c .before .before .before .before .before .before .before .before .before .before .before .before .address-toward .ensures in
+    (rw (c .answer-number .ensures, ← a, ← s), (rw (c .before .news-by .ensures, ← a, ← s), rw (← a, ← s)))
+
+pub johkkesir-transport-step-spec : {M : Type 1} → statement M
+johkkesir-transport-step-spec =
+    tie.close
+    (tie.spec
+    address-toward-requires
+    step-in-requires
+    news-by-requires
+    answer-number-requires
+    returns)
