@@ -1,6 +1,6 @@
 //! The race: the Rust and the proved side on the same bytes in one process, run by turns, best and median of many.
 //!
-//!     race [ROUNDS [MIB]]
+//!     race [ROUNDS [MIB [NAME]]]      NAME: only the rows whose name has it
 use driver::doors;
 use driver::doors::link as ours;
 use driver::make;
@@ -270,9 +270,9 @@ fn sum(wire: &[u8]) -> u64 {
 }
 
 fn main() {
-    let words: Vec<usize> = std::env::args().skip(1).map(|w| w.parse().expect("race [ROUNDS [MIB]]: numbers")).collect();
-    let rounds = words.first().copied().unwrap_or(21);
-    let size = words.get(1).copied().unwrap_or(16) << 20;
+    let words: Vec<String> = std::env::args().skip(1).collect();
+    let number = |i: usize, n: usize| words.get(i).map_or(n, |w| w.parse().expect("race [ROUNDS [MIB [NAME]]]"));
+    let (rounds, size) = (number(0, 21), number(1, 16) << 20);
     let mut rng = Rng::new(2);
     let mut rows = vec![check_row("crc, slices of 64 bytes", size, 64), check_row("crc, slices of 254 bytes", size, 254)];
     let frames = |rng: &mut Rng, a, b| {
@@ -315,7 +315,9 @@ fn main() {
     println!("| row | Rust best | median | MB/s | ours best | median | MB/s | best/best | median/median |");
     println!("|---|---|---|---|---|---|---|---|---|");
     for row in &mut rows {
-        race(row, rounds);
+        if words.get(2).map_or(true, |name| row.name.contains(name.as_str())) {
+            race(row, rounds);
+        }
     }
 }
 
