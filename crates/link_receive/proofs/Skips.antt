@@ -3,17 +3,19 @@
 use mathlib.Core.Path.{_≡_, refl, sym, ap, ap₂, _∙_, subst}
 use mathlib.Core.Bool.{Bool, true, false, cond, not, _&&_, _||_}
 use mathlib.Core.List.{List}
-use Prim.Native.Nat.{ℕ, zero, suc, _+_, _≤_, _<_}
+use Prim.Native.Nat.{ℕ, zero, suc, _+_, _-_, _≤_, _<_}
 use native.Mathlib.Nat.{add-zero, add-suc, le-of-lt}
 use native.Mathlib.Numerals.{add-one}
 use native.Mathlib.Omega.{arith}
 use lib.Dec.{eqb, ltb}
-use lib.ListN.{length, getD, set, drop}
+use lib.ListN.{length, getD, set, take, drop, length-set}
+use lib.Seq.{paste}
 use borrow.Author.Tests.{eqb-true, not-true, lt-ltb}
-use Rattle.runs.specs.Runs.{isOf, All, laid}
+use Rattle.runs.specs.Runs.{isOf, lead, All, laid}
+use Rattle.runs.proofs.Laws.{copy-room, copy-placed, copy-all, length-laid, laid-paste}
 use Rattle.runs.specs.declared.Sort.the-variants as sort
 use Rattle.link_receive.specs.declared.State.{State}
-use Rattle.link_receive.specs.declared.State.the-variants.{Idle, Noise, StartOfFrame, Frame, Giant}
+use Rattle.link_receive.specs.declared.State.the-variants.{Idle, Noise, StartOfFrame, Frame, FrameEscape, Giant}
 use Rattle.link_receive.specs.declared.Tally.the-variants as tally
 use Rattle.link_receive.specs.declared.Tallies.{Tallies}
 use Rattle.link_receive.specs.declared.Move.{Move}
@@ -58,6 +60,17 @@ pub turnOf-unit : (len b : ℕ) → len < limit → isOf sort.Raw b ≡ true →
 unfolding isOf turnOf
 turnOf-unit len b h e = rw (not-true (eqb b 0x7e) e, lt-ltb len limit h)
 
+-- 7e begins a pair
+turnOf-pair : (len b : ℕ) → b ≡ 0x7e → turnOf Frame len b ≡ To FrameEscape
+unfolding turnOf
+turnOf-pair len b e = rw e
+
+abbrev pub placeOf : ℕ → ℕ → Place
+placeOf len i = record { len = len; at = i }
+
+two : (i : ℕ) → i + 2 ≡ i + 1 + 1
+two i = omega arith
+
 next : (i m : ℕ) → i + suc m ≡ i + m + 1
 next i m = add-suc i m ∙ sym (add-one (i + m))
 
@@ -101,3 +114,61 @@ module _ (check : List ℕ → ℕ) (s : List ℕ) where
       Feeding check s f (madeOf state next (p .len) t) (p .at)
   feeding-ahead f state body len t i next p g a e =
       record { placed = a .placed; within = a .within; sized = e ∙ g .sized; same = a .same t ∙ g .same }
+
+  -- units of an open frame taken so far, from a body, a length and a place: the loop of `units` keeps this
+  pub record Held (body : List ℕ) (len i : ℕ) (next : List ℕ) (p : Place) : Type 0 where
+    pub ahead : Ahead check Frame s body len i next p
+    pub sized : length next ≡ limit
+
+  pub held-none : (body : List ℕ) (len i : ℕ) → len ≤ limit → length body ≡ limit → i ≤ length s → Held body len i body (placeOf len i)
+  held-none body len i h e g = record { ahead = record { placed = g; further = omega arith; within = h; same = λ t. refl }; sized = e }
+
+  module _ (b₀ : List ℕ) (l₀ i₀ : ℕ) (body : List ℕ) (len i : ℕ) (held : Held b₀ l₀ i₀ body (placeOf len i)) where
+    -- a run of raw bytes more
+    pub held-run :
+        (next : List ℕ) (k : ℕ) → k ≡ lead (isOf sort.Raw) (take (length body - len) (drop i s)) → next ≡ paste body len (drop i s) k →
+        Held b₀ l₀ i₀ next (placeOf (len + k) (i + k))
+    held-run next k e f =
+        let room = length body - len in
+        let here : i ≤ length s = held .ahead .placed in
+        let fits : k ≤ room = copy-room (isOf sort.Raw) s i room k here e in
+        let placed : i + k ≤ length s = copy-placed (isOf sort.Raw) s i room k here e in
+        let within : len + k ≤ limit = omega (arith, held .sized, held .ahead .within) in
+        let laid-now : next ≡ laid body len s i k = f ∙ sym (laid-paste body len s i k (omega (arith, held .sized)) placed) in
+        record {
+          ahead =
+              record {
+                placed = placed;
+                further = omega (arith, held .ahead .further);
+                within = within;
+                same =
+                    λ t.
+                    ap (λ (x : List ℕ). feedFrom check (madeOf Frame x (len + k) t) (drop (i + k) s) (i + k)) laid-now
+                    ∙ feedFrom-units body len t i k within placed (copy-all (isOf sort.Raw) s i room k here e)
+                    ∙ held .ahead .same t;
+              };
+          sized = ap length laid-now ∙ length-laid body len s i k ∙ held .sized;
+        }
+
+    -- an escape more
+    pub held-escape :
+        (d : ℕ) → i + 2 ≤ length s → len < limit → getD s i 0 ≡ 0x7e → turnOf FrameEscape len (getD s (i + 1) 0) ≡ Push d →
+        Held b₀ l₀ i₀ (set body len d) (placeOf (len + 1) (i + 2))
+    held-escape d g h e f =
+        record {
+          ahead =
+              record {
+                placed = g;
+                further = omega (arith, held .ahead .further);
+                within = omega arith;
+                same =
+                    λ t.
+                    let r = madeOf Frame body len t in
+                    let q = madeOf FrameEscape body len t in
+                    ap (λ (n : ℕ). feedFrom check (madeOf Frame (set body len d) (len + 1) t) (drop n s) n) (two i)
+                    ∙ feedFrom-more check q (madeOf Frame (set body len d) (len + 1) t) s (i + 1) (omega arith) (stepOf-within check q (getD s (i + 1) 0) (Push d) (le-of-lt h) f)
+                    ∙ feedFrom-more check r q s i (omega arith) (stepOf-within check r (getD s i 0) (To FrameEscape) (le-of-lt h) (turnOf-pair len (getD s i 0) e))
+                    ∙ held .ahead .same t;
+              };
+          sized = simp length-set (held .sized);
+        }

@@ -289,6 +289,40 @@ struct Advanced {
     at: usize,
 }
 
+// The units of an open frame, raw and escaped, as far as there is room and the slice has them whole.
+fn units(len0: usize, body: &mut [u8], s: &[u8], i0: usize) -> Place
+    requires { ⌜ (len0 ≤ limit) × (length (now body) ≡ limit) × (i0 ≤ length (now s)) ⌝ }
+    ensures { λ r. ⌜ Ahead crcOf State.Frame (now (s .entry)) (now (body .entry)) len0 i0 (now (body .exit)) r ⌝ }
+{
+    let mut len = len0;
+    let mut i = i0;
+    while i < s.len() {
+        let k = runs::copy_run(Sort::Raw, body, len, s, i);
+        len += k;
+        i += k;
+        if s.len() - i < 2 {
+            break;
+        }
+        if s[i] != 0x7e {
+            break;
+        }
+        if Receiver::MAX_FRAME_SIZE <= len {
+            break;
+        }
+        match escaping::unescaped_byte(s[i + 1]) {
+            Unescaped::Byte(d) => {
+                body[len] = d;
+                len += 1;
+                i += 2;
+            }
+            Unescaped::Invalid => {
+                break;
+            }
+        }
+    }
+    Place { len: len, at: i }
+}
+
 // Many bytes at once, where all of them leave the state as it is: idle bytes, noise, what a tail skips, and units of an open frame.
 fn ahead(state: State, len: usize, body: &mut [u8], s: &[u8], i: usize) -> Place
     requires { ⌜ (len ≤ limit) × (length (now body) ≡ limit) × (i ≤ length (now s)) ⌝ }
@@ -309,13 +343,7 @@ fn ahead(state: State, len: usize, body: &mut [u8], s: &[u8], i: usize) -> Place
                 at: i + k,
             }
         }
-        State::Frame => {
-            let k = runs::copy_run(Sort::Raw, body, len, s, i);
-            Place {
-                len: len + k,
-                at: i + k,
-            }
-        }
+        State::Frame => units(len, body, s, i),
         State::Giant => {
             let k = runs::run(Sort::Raw, s, i);
             Place {

@@ -1,19 +1,13 @@
--- `link_receive::ahead` goes over a run of bytes: each leaves the state as it is. Assumes nothing.
-use mathlib.Core.Path.{_≡_, refl, sym, ap, _∙_}
-use mathlib.Core.List.{List}
-use Prim.Native.Nat.{ℕ, _+_, _-_, _≤_}
+-- `link_receive::ahead` goes over a run of bytes, each of which leaves the state as it is. Assumes nothing.
+use Prim.Native.Nat.{ℕ, _+_}
 use native.Mathlib.Omega.{arith}
-use lib.ListN.{length, drop}
 use borrow.Author.Needs.{needs}
 use Rattle.crc.specs.Crc.{crcOf}
 use Rattle.runs.specs.Runs.{isOf}
 use Rattle.runs.specs.declared.Sort.the-variants as sort
-use Rattle.runs.proofs.Laws.{run-placed, run-all, copy-room, copy-placed, copy-all, laid-paste}
+use Rattle.runs.proofs.Laws.{run-placed, run-all}
 use Rattle.link_receive.specs.declared.State.the-variants.{Idle, Noise, Frame, Giant}
-use Rattle.link_receive.specs.Step.{limit}
-use Rattle.link_receive.specs.Feed.{feedFrom}
-use Rattle.link_receive.specs.Advance.{madeOf}
-use Rattle.link_receive.proofs.Skips.{turnOf-idle, turnOf-noise, turnOf-tail, feedFrom-stays, feedFrom-units}
+use Rattle.link_receive.proofs.Skips.{turnOf-idle, turnOf-noise, turnOf-tail, feedFrom-stays}
 use Rattle.link_receive.proofs.ahead.Statement.{statement}
 use Rattle.link_receive.proofs.ahead.Tie as tie
 
@@ -23,8 +17,8 @@ enum-told c = search needs
 run-requires : tie.Need-run-requires
 run-requires c κs = search needs
 
-add-t12 : tie.Need-add-t12
-add-t12 c =
+add-t11 : tie.Need-add-t11
+add-t11 c =
     let a = c .before .before .before .before .before .args in
     omega (arith, run-placed (isOf sort.Idle) (a .s .now) (a .i) (c .run .result) (search needs) (c .run .ensures))
 
@@ -34,28 +28,16 @@ enum-told-2 c = search needs
 run-requires-2 : tie.Need-run-requires-2
 run-requires-2 c κs = search needs
 
-add-t14 : tie.Need-add-t14
-add-t14 c =
+add-t13 : tie.Need-add-t13
+add-t13 c =
     let a = c .before .before .before .before .before .args in
     omega (arith, run-placed (isOf sort.Noise) (a .s .now) (a .i) (c .run2 .result) (search needs) (c .run2 .ensures))
 
 enum-told-3 : tie.Need-enum-told-3
 enum-told-3 c = search needs
 
-copy-run-requires : tie.Need-copy-run-requires
-copy-run-requires c κs = search needs
-
-add-t18 : tie.Need-add-t18
-add-t18 c =
-    let a = c .before .before .before .before .before .before .before .before .args in
-    let k = c .before .before .copy-run in
-    omega (arith, copy-room (isOf sort.Raw) (a .s .now) (a .i) (length (a .body .now) - a .len) (k .result) (search needs) (k .ensures .0))
-
-add-t19 : tie.Need-add-t19
-add-t19 c =
-    let a = c .before .before .before .before .before .before .before .before .args in
-    let k = c .before .before .copy-run in
-    omega (arith, copy-placed (isOf sort.Raw) (a .s .now) (a .i) (length (a .body .now) - a .len) (k .result) (search needs) (k .ensures .0))
+units-requires : tie.Need-units-requires
+units-requires c κs = search needs
 
 enum-told-4 : tie.Need-enum-told-4
 enum-told-4 c = search needs
@@ -63,8 +45,8 @@ enum-told-4 c = search needs
 run-requires-3 : tie.Need-run-requires-3
 run-requires-3 c κs = search needs
 
-add-t21 : tie.Need-add-t21
-add-t21 c =
+add-t17 : tie.Need-add-t17
+add-t17 c =
     let a = c .before .before .before .before .before .args in
     omega (arith, run-placed (isOf sort.Raw) (a .s .now) (a .i) (c .run3 .result) (search needs) (c .run3 .ensures))
 
@@ -99,23 +81,12 @@ same-length c = search needs
 
 returns-3 : tie.Need-returns-3
 returns-3 c =
-    let a = c .before .before .before .before .before .before .before .before .args in
-    let s = a .s .now in
-    let room = length (a .body .now) - a .len in
-    let run = c .before .before .copy-run in
-    let k = run .result in
-    let here : a .i ≤ length s = search needs in
-    let held : k ≤ room = copy-room (isOf sort.Raw) s (a .i) room k here (run .ensures .0) in
-    let placed : a .i + k ≤ length s = copy-placed (isOf sort.Raw) s (a .i) room k here (run .ensures .0) in
+    let u = c .before .before .units in
     record {
-      placed = placed;
-      further = omega arith;
-      within = omega arith;
-      same =
-          λ t.
-          rw (c .before .before .before .before .enum-told3 .given .1)
-          (ap (λ (x : List ℕ). feedFrom crcOf (madeOf Frame x (a .len + k) t) (drop (a .i + k) s) (a .i + k)) (run .ensures .1 ∙ sym (laid-paste (a .body .now) (a .len) s (a .i) k (omega arith) placed))
-          ∙ feedFrom-units crcOf s (a .body .now) (a .len) t (a .i) k (omega arith) placed (copy-all (isOf sort.Raw) s (a .i) room k here (run .ensures .0)));
+      placed = u .ensures .placed;
+      further = u .ensures .further;
+      within = u .ensures .within;
+      same = rw (c .before .before .before .before .enum-told3 .given .1) (u .ensures .same);
     }
 
 returns-4 : tie.Need-returns-4
@@ -140,17 +111,15 @@ ahead-spec =
     (tie.spec
     enum-told
     run-requires
-    add-t12
+    add-t11
     enum-told-2
     run-requires-2
-    add-t14
+    add-t13
     enum-told-3
-    copy-run-requires
-    add-t18
-    add-t19
+    units-requires
     enum-told-4
     run-requires-3
-    add-t21
+    add-t17
     returns
     returns-2
     same-length
