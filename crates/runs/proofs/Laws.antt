@@ -1,6 +1,6 @@
 -- Laws of runs. Assumes nothing.
 use mathlib.Core.Path.{_≡_, refl, sym, ap, ap₂, _∙_, subst}
-use mathlib.Core.Bool.{Bool, true, false, cond}
+use mathlib.Core.Bool.{Bool, true, false, cond, not, _&&_, _||_}
 use mathlib.Core.List.{List, [], _∷_}
 use Prim.Native.Nat.{ℕ, zero, suc, _+_, _-_, _≤_, _<_, zero-le, suc-le-suc}
 use native.Mathlib.Nat.{not-suc-le-zero, le-refl, le-of-suc-le-suc, zero-lt-suc, add-zero, add-suc, add-assoc, lt-of-lt-of-le, sub-self}
@@ -106,6 +106,24 @@ laid-whole d e l s i k m h q =
   where
     whole : (k m : ℕ) → k ≤ m → k + (m - k) ≡ m
     whole k m h = omega arith
+
+-- the tests of a sort, one by one
+pub noise-is : (x y z : Bool) → not x ≡ true → not y ≡ true → not z ≡ true → (not x && not (y || z)) ≡ true
+noise-is true y z p q r = p
+noise-is false true z p q r = q
+noise-is false false true p q r = r
+noise-is false false false p q r = refl
+
+pub plain-is : (x y : Bool) → not x ≡ true → not y ≡ true → (not x && not y) ≡ true
+plain-is true y p q = p
+plain-is false y p q = q
+
+pub never : {A : Type 0} → false ≡ true → A
+never t = absurd (let z : _≡_ {A = ℕ} 0 1 = cc in omega arith)
+
+-- no bytes
+pub all-none : (p : ℕ → Bool) (s : List ℕ) (i : ℕ) → All p s i 0
+all-none p s i k h = absurd (not-suc-le-zero h)
 
 -- what a run's length says, for whoever is handed one
 counted-le : (t : Bool) (m n : ℕ) → m ≤ n → cond t (suc m) 0 ≤ suc n
