@@ -1,16 +1,14 @@
 -- An address and its 16 bits, both ways, and what determines each answer. Assumes nothing.
-use mathlib.Core.Path.{_≡_, refl, sym, ap, _∙_}
+use mathlib.Core.Path.{_≡_, refl, ap}
 use mathlib.Core.Bool.{Bool, true, false, cond}
-use mathlib.Core.List.{List, [], _∷_}
 use Prim.Native.Nat.{ℕ, _+_, _-_, _≤_, _<_, _^_}
 use native.Mathlib.Omega.{arith}
 use lib.Dec.{ltb}
 use borrow.Author.Tests.{lt-ltb, le-ltb, ltb-true, ltb-false}
 use Rattle.laws.specs.Bytes.{be16}
-use Rattle.laws.specs.Handed.{Handed, refused, value}
+use Rattle.laws.specs.Handed.{refused, value}
 use Rattle.address.specs.Address.{idLimit, gatewayOf, isFrom, numberOf, addressOf}
 use Rattle.address.specs.Handed.{handedID, handedNumber, handedBytes, numberHanded, bytesHanded}
-use Rattle.address.specs.declared.GatewayID.{GatewayID}
 use Rattle.address.specs.declared.Address.{Address}
 use Rattle.address.specs.declared.Address.the-variants.{From, To}
 use Rattle.address.specs.declared.Made.{Made}

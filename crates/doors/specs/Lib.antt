@@ -1,1 +1,4 @@
 pub mod Numbered
+pub mod Addresses
+pub mod Packets
+pub mod Receivers

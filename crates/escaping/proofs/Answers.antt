@@ -1,6 +1,6 @@
 -- Two answers that 01 cannot tell apart are one answer, so that each contract of this crate determines its own;
 -- and the cases of `escape` that a caller with room meets. Assumes nothing.
-use mathlib.Core.Path.{_≡_, refl, ap}
+use mathlib.Core.Path.{_≡_, refl}
 use Prim.Native.Nat.{ℕ, _≤_, _<_}
 use mathlib.Core.List.{List}
 use lib.ListN.{length}
@@ -9,7 +9,7 @@ use lib.Dec.{ltb}
 use borrow.Author.Tests.{lt-ltb, le-ltb, ltb-true, ltb-false}
 use mathlib.Core.Bool.{Bool, true, false, cond}
 use Rattle.laws.specs.Bytes.{laidOver}
-use Rattle.laws.specs.Handed.{Handed, refused, value}
+use Rattle.laws.specs.Handed.{refused, value}
 use Rattle.escaping.specs.Escapes.{escaped}
 use Rattle.escaping.specs.Handed.{handedByte, handedLength, handedWritten, inputLimit, lengthHanded, escapeHanded, escapeBytes}
 use Rattle.escaping.specs.declared.Unescaped.{Unescaped}

@@ -1,17 +1,17 @@
 -- Laws of the escapes and of what the byte after 7e means: unescape undoes escape. Assumes nothing.
-use mathlib.Core.Path.{_≡_, refl, sym, ap, _∙_}
+use mathlib.Core.Path.{_≡_, refl, sym, ap}
 use mathlib.Core.Bool.{Bool, true, false, cond}
 use mathlib.Core.Logic.{_↔_}
 use mathlib.Core.List.{List, [], _∷_, _++_, List·Memᴰ, List·Memᴰ·head, List·Memᴰ·tail, List·Memᴰ·not-nil, List·Memᴰ·cases-cons}
 use mathlib.Core.Logic.{⊎-elim}
-use Prim.Native.Nat.{ℕ, zero, suc, _+_, _≤_, _<_}
+use Prim.Native.Nat.{ℕ, suc, _+_, _≤_, _<_}
 use native.Mathlib.Nat.{le-of-suc-le-suc, not-suc-le-zero}
 use native.Mathlib.Omega.{arith}
 use lib.Dec.{ltb, eqb}
 use lib.ListN.{length, getD}
-use borrow.Author.Tests.{le-ltb, lt-ltb, ltb-true, ltb-false, eqb-true, eqb-false, eq-eqb, ne-eqb}
+use borrow.Author.Tests.{le-ltb, lt-ltb, ltb-true, ltb-false, eqb-true, eqb-false, ne-eqb}
 use Rattle.laws.specs.Handed.{refused}
-use Rattle.escaping.specs.Escapes.{escapes, placeIn, codeOf, unescapedOf, escapedByte, escaped, unescaped, Paired, none, raw, pair, Meaning, datum, opener, closer, neither, meaning}
+use Rattle.escaping.specs.Escapes.{escapes, placeIn, codeOf, unescapedOf, escapedByte, escaped, unescaped, Paired, none, raw, pair, datum, opener, closer, neither, meaning}
 use Rattle.escaping.specs.Handed.{unescapeMeant, unescapeHanded}
 
 -- 00 to 06 are data after 7e

@@ -1,2 +1,7 @@
 pub mod Soundness
 pub mod Places
+pub mod Written
+pub mod Commands
+pub mod Told
+pub mod Fit
+pub mod Saying

@@ -5,13 +5,17 @@ use Prim.Native.Nat.{ℕ, _+_, _-_, _≤_, _<_}
 use mathlib.Core.Bool.{Bool, true, false, cond}
 use mathlib.Core.List.{List, [], _∷_, _++_}
 use native.Mathlib.Omega.{arith}
-use lib.ListN.{length, getD, take, drop, length-take, length-drop, length-append, List·getD-append}
-use lib.Seq.{getD-take, getD-drop, length-take-le, take-at, drop-at, take-append-seam, drop-append-seam}
+use lib.ListN.{length, getD, take, drop, length-take, length-drop, take-append-drop, List·getD-append}
+use lib.Seq.{getD-take, getD-drop, length-take-le, take-append-seam, drop-append-seam}
 use Rattle.laws.specs.Bytes.{be16At}
 use Rattle.event_record.specs.Record.{bodyStart, soundAt, recordAt, standsAt}
 use Rattle.event_record.specs.declared.Stands.{Stands}
 use Rattle.event_record.specs.declared.Stands.the-variants.{Record, Nothing}
 use Rattle.event_record.proofs.Soundness.{Parts, sound-parts, not-sound}
+
+-- a start of a list is as many of its elements as the start has
+take-length-take : (n : ℕ) (l : List ℕ) → take (length (take n l)) l ≡ take n l
+take-length-take n l = ap (take (length (take n l))) (sym (take-append-drop n l)) ∙ take-append-seam (take n l) (drop n l)
 
 module _ (v : ℕ) (log : List ℕ) (at : ℕ) where
   -- the length of what stands at a place is the one that is read there
@@ -51,3 +55,68 @@ module _ (v : ℕ) (log : List ℕ) (at : ℕ) where
 
     pub stands-tested-not : t ≡ false → Nothing ≡ standsAt v log at
     stands-tested-not s = sym (stands-nothing (ap (soundAt v) (sym same) ∙ sym u ∙ s))
+
+-- a sound record's length gives its end
+pub sound-end : (v : ℕ) (r : List ℕ) → soundAt v r ≡ true → length r ≡ 2 + be16At r 0
+sound-end v r e = sound-parts v r e .whole
+
+-- a record is sound at one version at most: the one that it shows
+pub one-version : (v w : ℕ) (r : List ℕ) → soundAt v r ≡ true → soundAt w r ≡ true → v ≡ w
+one-version v w r e f = sym (sound-parts v r e .version) ∙ sound-parts w r f .version
+
+module _ (v : ℕ) (r : List ℕ) (s : soundAt v r ≡ true) where
+  -- the length of a sound record is read off whatever follows it
+  be16At-front : (x : List ℕ) → be16At (r ++ x) 0 ≡ be16At r 0
+  be16At-front x =
+      let h = sound-parts v r s .head in
+      rw (List·getD-append r x 0 0 (omega arith), List·getD-append r x 0 (0 + 1) (omega arith))
+
+  front : (x : List ℕ) → take (2 + be16At (r ++ x) 0) (r ++ x) ≡ r
+  front x = rw (be16At-front x, ← sound-end v r s) (take-append-seam r x)
+
+  -- a sound record that lies in a log stands at its place
+  module _ (p x : List ℕ) where
+    recordAt-within : recordAt (p ++ (r ++ x)) (length p) ≡ r
+    recordAt-within =
+        let log = p ++ (r ++ x) in
+        let z : length p + 0 ≡ length p = omega arith in
+        let e : be16At (drop (length p) log) 0 ≡ be16At log (length p) = rw (getD-drop (length p) log 0 0, getD-drop (length p) log (0 + 1) 0, z) in
+        let d : drop (length p) log ≡ r ++ x = drop-append-seam p (r ++ x) in
+        ap (λ (n : ℕ). take (2 + n) (drop (length p) log)) (sym e) ∙ ap (λ (l : List ℕ). take (2 + be16At l 0) l) d ∙ front x
+
+    pub stands-within : standsAt v (p ++ (r ++ x)) (length p) ≡ Record (length p + length r)
+    stands-within =
+        stands-sound v (p ++ (r ++ x)) (length p) (ap (soundAt v) recordAt-within ∙ s)
+        ∙ ap (λ (l : List ℕ). Record (length p + length l)) recordAt-within
+
+-- no sound record starts another, whatever their versions: at one place of a log at most one stands
+pub one-record : (v w : ℕ) (r s x y : List ℕ) → soundAt v r ≡ true → soundAt w s ≡ true → r ++ x ≡ s ++ y → r ≡ s
+one-record v w r s x y e f g = sym (front v r e x) ∙ ap (λ (l : List ℕ). take (2 + be16At l 0) l) g ∙ front w s f y
+
+-- where a record is found, the bytes up to its end are sound, and lie within the log
+module _ (v : ℕ) (log : List ℕ) (at e : ℕ) where
+  found : standsAt v log at ≡ Record e → (soundAt v (recordAt log at) ≡ true) × (e ≡ at + length (recordAt log at))
+  unfolding standsAt
+  found = go (soundAt v (recordAt log at)) refl
+    where
+      go : (t : Bool) → soundAt v (recordAt log at) ≡ t → cond t (Record (at + length (recordAt log at))) Nothing ≡ Record e
+          → (soundAt v (recordAt log at) ≡ true) × (e ≡ at + length (recordAt log at))
+      go true s f = (s, cc)
+      go false s f = let z : _≡_ {A = ℕ} 0 1 = cc in absurd (omega arith)
+
+  within : bodyStart v ≤ length (recordAt log at) → at + length (recordAt log at) ≤ length log
+  within h = let i = simp (length-take, length-drop) at h in simp (length-take, length-drop) (omega arith)
+
+  -- it has at least the bytes before a body, and ends within the log
+  pub stands-ahead : standsAt v log at ≡ Record e → (at + bodyStart v ≤ e) × (e ≤ length log)
+  stands-ahead f =
+      let r = found f in
+      let p = sound-parts v (recordAt log at) (r .0) in
+      (omega (arith, p .head, r .1), omega (arith, r .1, within (p .head)))
+
+  pub stands-bytes : standsAt v log at ≡ Record e → soundAt v (take (e - at) (drop at log)) ≡ true
+  stands-bytes f =
+      let r = found f in
+      let l = length (recordAt log at) in
+      let n : e - at ≡ l = omega (arith, r .1) in
+      ap (λ (k : ℕ). soundAt v (take k (drop at log))) n ∙ ap (soundAt v) (take-length-take (2 + be16At log at) (drop at log)) ∙ r .0

@@ -6,7 +6,7 @@ use mathlib.Core.List.{List, [], _∷_}
 use native.Mathlib.Omega.{arith}
 use lib.ListN.{length, getD, take, drop}
 use lib.Dec.{leb, ltb, eqb}
-use borrow.Author.Tests.{ltb-true, leb-true, eqb-true, lt-ltb, le-leb, lt-leb, eq-eqb, ne-eqb}
+use borrow.Author.Tests.{ltb-true, leb-true, eqb-true, lt-ltb, le-ltb, le-leb, lt-leb, eq-eqb, ne-eqb}
 use Rattle.laws.specs.Bytes.{be16At}
 use Rattle.utf8.specs.Scan.{isText}
 use Rattle.network.specs.Split.{packetSize}
@@ -19,7 +19,7 @@ implied true b h = refl
 implied false true h = h refl
 implied false false h = refl
 
-both : (a b : Bool) → (a && b) ≡ true → (a ≡ true) × (b ≡ true)
+pub both : (a b : Bool) → (a && b) ≡ true → (a ≡ true) × (b ≡ true)
 both true b h = (refl, h)
 both false b h = let z : _≡_ {A = ℕ} 0 1 = cc in absurd (omega arith)
 
@@ -85,6 +85,10 @@ module _ (v : ℕ) (b : List ℕ) where
   pub soundBody-8 : getD b 1 0 < 256 → length b ≤ 1025 → soundBody v 8 b ≡ leb (3 + getD b 1 0) (length b)
   unfolding soundBody isBody
   soundBody-8 h l = rw (lt-ltb (getD b 1 0) 256 h, le-leb (length b) 1025 l)
+
+  pub soundBody-8-wide : 255 < getD b 1 0 → soundBody v 8 b ≡ false
+  unfolding soundBody isBody
+  soundBody-8-wide h = rw (le-ltb (getD b 1 0) 256 h) (and-false (leb (length b) 1025))
 
   pub soundBody-8-long : 1025 < length b → soundBody v 8 b ≡ false
   unfolding soundBody isBody

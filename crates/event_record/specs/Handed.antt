@@ -5,18 +5,14 @@ use mathlib.Core.List.{List}
 use lib.ListN.{length}
 use lib.Dec.{ltb}
 use Rattle.laws.specs.Bytes.{laidOver}
+use Rattle.laws.specs.Handed.{Handed, refused, value}
 use Rattle.address.specs.Address.{idLimit}
 use Rattle.event_record.specs.Record.{written, framed, soundAt}
 use Rattle.event_record.specs.Event.{Event, kindOf, bodyOf}
 use Rattle.event_record.specs.declared.Recorded.{Recorded}
 use Rattle.event_record.specs.declared.Recorded.the-variants.{Written, InvalidGateway, Unsound, NoRoom}
 
--- a number of 01's table, or how many bytes were written
-pub data Handed : Type 0 where
-  refused : ℕ → Handed
-  value : ℕ → Handed
-
-abbrev pub handed : Recorded → Handed
+abbrev pub handed : Recorded → Handed ℕ
 handed (Written n) = value n
 handed InvalidGateway = refused 13
 handed Unsound = refused 41
@@ -24,7 +20,7 @@ handed NoRoom = refused 40
 
 -- 01, "Numbers handed back", for an event record 13, 41, 40: gateway ID above 7fff; event whose record would not be sound; room below
 -- its whole length
-unfoldable pub framedHanded : ℕ → ℕ → List ℕ → ℕ → Handed
+unfoldable pub framedHanded : ℕ → ℕ → List ℕ → ℕ → Handed ℕ
 framedHanded kind gateway body room =
     cond (ltb idLimit gateway) (refused 13)
     (cond (not (soundAt written (framed written kind gateway body))) (refused 41)
@@ -32,7 +28,7 @@ framedHanded kind gateway body room =
     (value (length (framed written kind gateway body)))))
 
 -- 01, "Numbers handed back": no refusal touches an output buffer; an accepted encoding changes only the bytes written
-abbrev pub laidIf : Handed → List ℕ → List ℕ → List ℕ
+abbrev pub laidIf : Handed ℕ → List ℕ → List ℕ → List ℕ
 laidIf (refused n) xs out = out
 laidIf (value n) xs out = laidOver xs out
 
@@ -41,7 +37,7 @@ framedBytes kind gateway body out =
     laidIf (framedHanded kind gateway body (length out)) (framed written kind gateway body) out
 
 -- the same of an event
-abbrev pub recordHanded : ℕ → Event → ℕ → Handed
+abbrev pub recordHanded : ℕ → Event → ℕ → Handed ℕ
 recordHanded gateway e room = framedHanded (kindOf e) gateway (bodyOf written e) room
 
 abbrev pub recordBytes : ℕ → Event → List ℕ → List ℕ

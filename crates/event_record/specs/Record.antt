@@ -4,6 +4,7 @@ use Prim.Native.Nat.{ℕ, _+_, _^_}
 use mathlib.Core.Bool.{Bool, true, false, cond, _&&_}
 use mathlib.Core.List.{List, [], _∷_, _++_}
 use lib.ListN.{length, getD, take, drop}
+use lib.Seq.{paste}
 use lib.Dec.{leb, ltb, eqb}
 use Rattle.laws.specs.Bytes.{be16, be16At}
 use Rattle.address.specs.Address.{idLimit}
@@ -22,6 +23,14 @@ following v kind gateway body = v ∷ kind ∷ (be16 gateway ++ body)
 
 unfoldable pub framed : ℕ → ℕ → ℕ → List ℕ → List ℕ
 framed v kind gateway body = be16 (length (following v kind gateway body)) ++ following v kind gateway body
+
+-- a record up to its body of n bytes
+abbrev pub headOf : ℕ → ℕ → ℕ → ℕ → List ℕ
+headOf v kind gateway n = be16 (4 + n) ++ (v ∷ kind ∷ be16 gateway)
+
+-- a buffer with a piece copied in from a place: just those bytes change
+abbrev pub laidAt : ℕ → List ℕ → List ℕ → List ℕ
+laidAt at piece out = paste out at piece (length piece)
 
 -- where the body starts in a record of version v
 abbrev pub bodyStart : ℕ → ℕ

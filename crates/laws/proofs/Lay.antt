@@ -5,7 +5,7 @@ use Prim.Native.Nat.{ℕ, _+_, _≤_, _<_}
 use native.Mathlib.Numerals.{add-one}
 use native.Mathlib.Omega.{arith}
 use lib.ListN.{length, take, drop, set, length-append, length-drop, take-append-drop}
-use lib.Seq.{paste, drop-cons, set-append-seam, append-snoc, take-append-seam, drop-append-seam, drop-append-add, drop-drop, take-length, drop-append-le}
+use lib.Seq.{paste, take-paste, drop-paste, drop-cons, set-append-seam, append-snoc, take-append-seam, drop-append-seam, drop-append-add, drop-drop, take-length, drop-append-le}
 use Rattle.laws.specs.Bytes.{laidOver}
 
 -- what is written fits, so the buffer keeps its length
@@ -29,3 +29,21 @@ laidOver-take ys out n h =
 -- a piece copied in behind what is written
 pub laidOver-paste : (xs ys out : List ℕ) → paste (laidOver xs out) (length xs) ys (length ys) ≡ laidOver (xs ++ ys) out
 laidOver-paste xs ys out = rw (take-append-seam, take-length, drop-append-add, drop-drop, length-append, append-assoc)
+
+-- a piece copied in behind another is one copy of both: the body of a command cites this
+pub paste-append : (d : List ℕ) (at : ℕ) (xs ys : List ℕ) → at ≤ length d
+    → paste (paste d at xs (length xs)) (at + length xs) ys (length ys) ≡ paste d at (xs ++ ys) (length (xs ++ ys))
+paste-append d at xs ys h =
+    let le : length xs ≤ length xs = omega arith in
+    let e : at + length xs + length ys ≡ at + length (xs ++ ys) = simp length-append (omega arith) in
+    rw (
+      take-paste d at xs (length xs) h le,
+      ← drop-drop (length ys) (at + length xs) (paste d at xs (length xs)),
+      drop-paste d at xs (length xs) h le,
+      drop-drop (length ys) (at + length xs) d,
+      e,
+      take-length xs,
+      take-length ys,
+      take-length (xs ++ ys),
+    )
+    (ap (λ (l : List ℕ). l ++ drop (at + length (xs ++ ys)) d) (append-assoc (take at d) xs ys))

@@ -1,4 +1,6 @@
 // Reads standard input, or the file that its first argument names, to its end, and prints its ledger: 01's nine lines.
+use books::Ledger;
+use books::Telling;
 use libc::STDERR_FILENO;
 use libc::STDIN_FILENO;
 use libc::STDOUT_FILENO;
@@ -33,7 +35,7 @@ fn read_block(fd: i32, buf: &mut [u8], r: Receiver) -> Read {
         };
     }
     let n = io::count(got, buf);
-    let x = r.extend_from_slice(&buf[..n]);
+    let x = books::absorb(r, &buf[..n]);
     let next = x.next;
     Read {
         next: next,
@@ -82,18 +84,16 @@ fn print_line(name: &[u8], n: u64) {
     io::write_all(STDOUT_FILENO, b"\n");
 }
 
-fn print_ledger(r: Receiver) {
-    let t = r.tallies;
-    print_line(b"openings ", t.openings);
-    print_line(b"frames ", t.frames);
-    print_line(b"runts ", t.runts);
-    print_line(b"checksums ", t.checksums);
-    print_line(b"giants ", t.giants);
-    print_line(b"escaped ", t.escaped);
-    print_line(b"broken ", t.broken);
-    print_line(b"noise ", t.noise);
-    let state = r.state;
-    print_line(b"open ", link_receive::open_frames(state));
+fn print_ledger(l: Ledger) {
+    print_line(b"openings ", l.openings);
+    print_line(b"frames ", l.frames);
+    print_line(b"runts ", l.runts);
+    print_line(b"checksums ", l.checksums);
+    print_line(b"giants ", l.giants);
+    print_line(b"escaped ", l.escaped);
+    print_line(b"broken ", l.broken);
+    print_line(b"noise ", l.noise);
+    print_line(b"open ", l.unfinished);
 }
 
 fn fail(what: &[u8]) {
@@ -107,7 +107,10 @@ fn tell(fd: i32, name: &[u8]) {
     let came = x.came;
     if let Came::End = came {
         let r = x.next;
-        print_ledger(r);
+        let Telling::So(l) = books::told(r) else {
+            return;
+        };
+        print_ledger(l);
     } else {
         fail(name);
     }

@@ -1,14 +1,24 @@
 -- A body of a frame, over any check: its length, its check's place, and the frame read back out of it. Assumes nothing.
-use mathlib.Core.Path.{_≡_, refl, sym, ap, _∙_}
-use mathlib.Core.List.{List, [], _∷_, _++_, append-assoc}
-use Prim.Native.Nat.{ℕ, zero, suc, _+_, _-_, _*_, _/_, _%_, _^_, _≤_, _<_}
-use native.Mathlib.Nat.{div-add-mod'}
+use mathlib.Core.Path.{_≡_}
+use mathlib.Core.List.{List, [], _∷_, _++_}
+use mathlib.Core.Bool.{Bool, true, false, cond}
+use lib.Dec.{ltb}
+use Prim.Native.Nat.{ℕ, _+_, _-_, _/_, _%_, _^_, _≤_, _<_}
 use native.Mathlib.Omega.{arith}
-use lib.ListN.{length, getD, take, drop, length-append, List·getD-append}
-use lib.Seq.{take-at, drop-at, take-append-seam, getD-append-add}
-use Rattle.laws.specs.Bytes.{Bytes, Check16, be16, le16, of16, be16At, laidOver}
-use Rattle.laws.proofs.Bytes.{of16-be16}
-use Rattle.link.specs.Wire.{Frame, checkedOf, bodyOf, frameOf, bodyLimit, payloadLimit}
+use lib.ListN.{length, getD, take, drop, length-append}
+use lib.Seq.{take-at, drop-at, getD-append-add}
+use Rattle.laws.specs.Bytes.{Bytes, Check16, be16, le16, of16, laidOver}
+use Rattle.laws.proofs.Bytes.{of16-be16, bytes-append, bytes-be16, bytes-le16}
+use Rattle.escaping.proofs.Lengths.{length-escaped-le}
+use Rattle.link.specs.Wire.{Frame, startOf, checkedOf, bodyOf, frameOf, encodedOf, bodyLimit, payloadLimit}
+use Rattle.link.proofs.Writes.{length-wireOf}
+
+length-startOf-le : (n : ℕ) → length (startOf n) ≤ 5
+length-startOf-le n = go (ltb n 0x8000) (0x00 ∷ 0xff ∷ 0xff ∷ 0x7e ∷ 0x07 ∷ []) (0xff ∷ 0x7e ∷ 0x07 ∷ []) (omega arith) (omega arith)
+  where
+    go : (t : Bool) (to from : List ℕ) → length to ≤ 5 → length from ≤ 5 → length (cond t to from) ≤ 5
+    go true to from h g = h
+    go false to from h g = g
 
 module _ (check : List ℕ → ℕ) (f : Frame) where
   pub length-checkedOf : length (checkedOf f) ≡ length (f .payload) + 4
@@ -40,3 +50,31 @@ module _ (check : List ℕ → ℕ) (f : Frame) where
   -- the frame that a body says is the one that it was made of
   pub frameOf-bodyOf : frameOf (bodyOf check f) ≡ f
   frameOf-bodyOf = rw (of16-be16 (f .address), of16-be16 (f .kind), bodyOf-checked)
+
+  -- the last two bytes one by one, and the number that they spell
+  pub getD-bodyOf-low : getD (bodyOf check f) (length (f .payload) + 4) 0 ≡ check (checkedOf f) % 256
+  getD-bodyOf-low =
+      let e : length (f .payload) + 4 ≡ length (checkedOf f) + 0 = omega arith in
+      rw e (getD-append-add (checkedOf f) (le16 (check (checkedOf f))) 0 0)
+
+  pub getD-bodyOf-high : getD (bodyOf check f) (length (f .payload) + 5) 0 ≡ check (checkedOf f) / 256
+  getD-bodyOf-high =
+      let e : length (f .payload) + 5 ≡ length (checkedOf f) + 1 = omega arith in
+      rw e (getD-append-add (checkedOf f) (le16 (check (checkedOf f))) 1 0)
+
+  pub bodyOf-check-value : of16 (getD (bodyOf check f) (length (f .payload) + 5) 0) (getD (bodyOf check f) (length (f .payload) + 4) 0) ≡ check (checkedOf f)
+  bodyOf-check-value = rw (getD-bodyOf-low, getD-bodyOf-high) (of16-be16 (check (checkedOf f)))
+
+  -- a body is a list of bytes
+  module _ (a : f .address < 2 ^ 16) (k : f .kind < 2 ^ 16) (p : Bytes (f .payload)) where
+    pub checkedOf-bytes : Bytes (checkedOf f)
+    checkedOf-bytes = bytes-append (be16 (f .address)) (be16 (f .kind) ++ f .payload) (bytes-be16 (f .address) a) (bytes-append (be16 (f .kind)) (f .payload) (bytes-be16 (f .kind) k) p)
+
+    pub bodyOf-bytes : Check16 check → Bytes (bodyOf check f)
+    bodyOf-bytes h = bytes-append (checkedOf f) (le16 (check (checkedOf f))) checkedOf-bytes (bytes-le16 (check (checkedOf f)) (h (checkedOf f) checkedOf-bytes))
+
+  -- 01, "On the wire": the longest encoding has at most 5 + 512 + 2 = 519 bytes
+  pub length-encodedOf-le : length (f .payload) ≤ payloadLimit → length (encodedOf check f) ≤ 5 + 512 + 2
+  unfolding encodedOf
+  length-encodedOf-le h =
+      omega (arith, length-wireOf (startOf (f .address)) (bodyOf check f), length-startOf-le (f .address), length-escaped-le (bodyOf check f), length-bodyOf)

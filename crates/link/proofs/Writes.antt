@@ -1,16 +1,14 @@
 -- What the writing functions lay over their buffers. Assumes nothing.
-use mathlib.Core.Path.{_≡_, refl, sym, ap, _∙_}
-use mathlib.Core.Bool.{cond}
+use mathlib.Core.Path.{_≡_, ap, _∙_}
 use mathlib.Core.List.{List, [], _∷_, _++_, append-assoc}
-use Prim.Native.Nat.{ℕ, _+_, _-_, _*_, _/_, _%_, _≤_, _<_}
+use Prim.Native.Nat.{ℕ, _+_, _-_, _/_, _%_, _≤_, _<_}
 use native.Mathlib.Nat.{zero-add}
 use native.Mathlib.Omega.{arith}
 use lib.ListN.{length, take, drop, length-append, length-drop, take-append-drop}
 use lib.Seq.{paste, take-length, take-at, drop-at, length-take-le}
-use lib.Dec.{ltb}
 use borrow.Author.Tests.{lt-ltb, le-ltb}
 use Rattle.laws.specs.Bytes.{laidOver, be16, le16}
-use Rattle.laws.specs.Handed.{Handed, refused, value}
+use Rattle.laws.specs.Handed.{refused, value}
 use Rattle.laws.proofs.Lay.{laidOver-append, laidOver-paste, laidOver-take}
 use Rattle.escaping.specs.Escapes.{escaped}
 use Rattle.escaping.specs.Handed.{escapeBytes}

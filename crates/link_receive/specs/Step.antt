@@ -7,6 +7,7 @@ use lib.Dec.{eqb, ltb}
 use Rattle.laws.specs.Bytes.{be16At}
 use Rattle.escaping.specs.Escapes.{Meaning, datum, opener, closer, neither, meaning, unescapedOf}
 use Rattle.address.specs.Address.{addressOf}
+use Rattle.link.specs.Wire.{bodyLimit}
 use Rattle.reading.specs.Kinds.{Kind}
 use Rattle.reading.specs.Kinds as k
 use Rattle.reading.specs.Counts.{Verdict, runt, checksum, sound, verdict}
@@ -26,7 +27,7 @@ use Rattle.link_receive.specs.Tally.{kindOf, raise, zeros}
 
 -- 01, "What changes shape": a 256-byte array with a length
 abbrev pub limit : ℕ
-limit = 256
+limit = bodyLimit
 
 -- 01, "The reading of a stream": a fresh receiver is Idle
 abbrev pub freshOf : Receiver

@@ -1,18 +1,18 @@
 -- The books of a reading: counts of events are counts of pieces, the bodies handed out are the sound ones, openings balance endings
 -- (`balance`), also since a reset (`balance-since`), and no count is more than the bytes (`most`). Assumes nothing.
 use mathlib.Core.Path.{_≡_, refl, sym, _∙_, ap}
-use Prim.Native.Nat.{ℕ, suc, _+_, _-_, _≤_, _<_}
-use mathlib.Core.Bool.{Bool, true, false, cond, _&&_, _||_}
-use mathlib.Core.List.{List, [], _∷_, _++_, append-assoc, append-nil}
+use Prim.Native.Nat.{ℕ, _+_, _≤_}
+use mathlib.Core.Bool.{Bool, true, false, _&&_, _||_}
+use mathlib.Core.List.{List, [], _∷_, _++_}
 use native.Mathlib.Omega.{arith}
 use lib.ListN.{length}
 use lib.Dec.{eqb, ltb}
 use borrow.Author.Tests.{eqb-true}
 use Rattle.escaping.specs.Escapes.{Meaning, datum, opener, closer, neither, meaning}
 use Rattle.reading.specs.Kinds.{Kind, openings, frames, runts, checksums, giants, escaped, broken, noise, placeOf, same}
-use Rattle.reading.specs.Grammar.{Line, idle, noisy, Unit, Opening, Ending, closed, broken-by, giant-by, escaped-by, unfinished, unfinished-7e, Piece, outside-byte, outside-pair, outside-7e, frame, tail, is7e, leadsTo, isNoise, Reading}
+use Rattle.reading.specs.Grammar.{Line, idle, Unit, Opening, Ending, closed, broken-by, giant-by, escaped-by, unfinished, unfinished-7e, Piece, outside-byte, outside-pair, outside-7e, frame, tail, is7e, leadsTo, isNoise, Reading}
 use Rattle.reading.specs.Counts.{Verdict, runt, checksum, sound, verdict, kindOf, Rest, out, out-7e, inside, inside-7e, over, over-7e, left, bodyIn, one, counts, count, endings, bodyIf, soundIn, soundBodies, openIn, countSince, endingsSince}
-use Rattle.reading.proofs.Machine.{Event, counted, closes, Beat, noises, beat, run, reach, eventsOf, eventsIn, ledger, rests, run-append, reach-append}
+use Rattle.reading.proofs.Machine.{Event, counted, closes, noises, beat, run, reach, eventsOf, eventsIn, ledger, rests, run-append, reach-append}
 
 -- COUNTS OF EVENTS
 

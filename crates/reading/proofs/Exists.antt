@@ -1,6 +1,6 @@
 -- A reading exists: what the reader finds makes up the bytes (`join-pieces`), and the rules allow it (`follows-pieces`). Assumes nothing.
-use mathlib.Core.Path.{_≡_, refl, sym, _∙_, ap}
-use Prim.Native.Nat.{ℕ, suc, _+_, _≤_, _<_}
+use mathlib.Core.Path.{_≡_, refl, _∙_}
+use Prim.Native.Nat.{ℕ, _+_, _≤_}
 use mathlib.Core.Bool.{Bool, true, false, cond}
 use mathlib.Core.List.{List, [], _∷_, _++_, append-assoc, append-nil}
 use mathlib.Core.Option.{Option, none, some}
@@ -10,8 +10,8 @@ use lib.Dec.{eqb, ltb}
 use borrow.Author.Tests.{eqb-true, ltb-true, ltb-false}
 use Rattle.escaping.specs.Escapes.{Meaning, datum, opener, closer, neither, meaning}
 use Rattle.reading.specs.Grammar as g
-use Rattle.reading.specs.Grammar.{Line, idle, noisy, Unit, raw, pair, Opening, here, before, Ending, closed, broken-by, giant-by, escaped-by, unfinished, unfinished-7e, Start, whole, half, TailEnd, at-closer, at-opener, runs-out, runs-out-7e, Piece, outside-byte, outside-pair, outside-7e, frame, tail, unitBytes, openerBytes, endingBytes, tailEndBytes, pieceBytes, join, Next, outside, opened, overlong, nothing, afterTail, skips, is7e, leadsTo, DataUnit, Skipped, All, Ends, by-closer, by-break, by-raw, by-escape, by-end, by-end-7e, Follows, may-end, must-end, byte, any-other-pair, lone-7e, opens-here, opened-before, one-tail, Reading}
-use Rattle.reading.proofs.Reader.{Hand, clear, clear-7e, in-frame, in-frame-7e, due, in-tail, in-tail-7e, Move, goes, gives, led, finish, step, pieces, piecesOf}
+use Rattle.reading.specs.Grammar.{Line, idle, Unit, raw, pair, Opening, here, before, Ending, whole, half, TailEnd, at-closer, at-opener, runs-out, runs-out-7e, Piece, frame, unitBytes, openerBytes, tailEndBytes, pieceBytes, join, Next, outside, opened, overlong, afterTail, skips, is7e, DataUnit, Skipped, All, Ends, by-closer, by-break, by-raw, by-escape, by-end, by-end-7e, Follows, may-end, must-end, byte, any-other-pair, lone-7e, opens-here, opened-before, one-tail, Reading}
+use Rattle.reading.proofs.Reader.{Hand, clear, clear-7e, in-frame, in-frame-7e, due, in-tail, in-tail-7e, led, finish, step, pieces, piecesOf}
 
 -- the opener is 07, the closer 08
 meaning-opener : (b : ℕ) → meaning b ≡ opener → b ≡ 0x07

@@ -1,17 +1,17 @@
 -- A machine that takes a byte at a time and gives a list of events: over a run these are the events of the pieces of the reading,
 -- in order (`ledger`), and it comes to rest where they leave off (`rests`). A device of the proofs: the receiver is compared with it. Assumes nothing.
 use mathlib.Core.Path.{_≡_, refl, sym, _∙_, ap}
-use Prim.Native.Nat.{ℕ, suc, _+_, _≤_, _<_}
+use Prim.Native.Nat.{ℕ, _+_}
 use mathlib.Core.Bool.{Bool, true, false, cond}
 use mathlib.Core.List.{List, [], _∷_, _++_, append-assoc, append-nil, map-append}
 use mathlib.Core.Option.{Option, none, some}
-use lib.ListN.{length, length-append, length-map}
+use lib.ListN.{length, length-map}
 use lib.Dec.{ltb}
 use Rattle.escaping.specs.Escapes.{Meaning, datum, opener, closer, neither, meaning, unescapedOf}
-use Rattle.reading.specs.Kinds.{Kind, openings, frames, runts, checksums, giants, escaped, broken, noise}
-use Rattle.reading.specs.Grammar.{Line, idle, noisy, Unit, raw, pair, Opening, Ending, closed, broken-by, giant-by, escaped-by, unfinished, unfinished-7e, Start, whole, half, TailEnd, at-closer, at-opener, runs-out, runs-out-7e, Piece, outside-byte, outside-pair, outside-7e, frame, tail, is7e, leadsTo, isNoise, Reading}
-use Rattle.reading.specs.Counts.{Verdict, runt, checksum, sound, verdict, Rest, out, out-7e, inside, inside-7e, over, over-7e, restOf, leftFrom, left, value, bodyIn}
-use Rattle.reading.proofs.Reader.{Hand, clear, clear-7e, in-frame, in-frame-7e, due, in-tail, in-tail-7e, Move, goes, gives, led, finish, step, pieces, piecesOf}
+use Rattle.reading.specs.Kinds.{Kind, openings, giants, escaped, broken, noise}
+use Rattle.reading.specs.Grammar.{Line, idle, noisy, Unit, pair, Opening, Ending, closed, broken-by, giant-by, escaped-by, unfinished, unfinished-7e, whole, TailEnd, at-closer, at-opener, runs-out, runs-out-7e, Piece, outside-byte, outside-pair, outside-7e, frame, tail, is7e, leadsTo, isNoise, Reading}
+use Rattle.reading.specs.Counts.{Verdict, verdict, Rest, out, out-7e, inside, inside-7e, over, over-7e, restOf, leftFrom, left, value, bodyIn}
+use Rattle.reading.proofs.Reader.{Hand, clear, clear-7e, in-frame, in-frame-7e, due, in-tail, in-tail-7e, led, finish, step, pieces}
 use Rattle.reading.proofs.Unique.{unique}
 use Rattle.reading.proofs.Exists.{exists}
 

@@ -1,8 +1,7 @@
 -- Exactly one reading: one exists, and there is no second. Assumes nothing.
-use mathlib.Core.Path.{_≡_}
 use Prim.Native.Nat.{ℕ}
 use mathlib.Core.List.{List}
-use Rattle.reading.specs.Grammar.{Reading, TheReading}
+use Rattle.reading.specs.Grammar.{TheReading}
 use Rattle.reading.proofs.Reader.{piecesOf}
 use Rattle.reading.proofs.Unique.{unique}
 use Rattle.reading.proofs.Exists.{exists}

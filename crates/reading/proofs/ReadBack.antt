@@ -1,38 +1,29 @@
 -- Read-back: a frame within the limit, encoded, come while the line is Idle or in Noise, opens once and closes soundly with exactly its body,
 -- and the line is Idle then. For any check and any limit. Assumes nothing.
 use mathlib.Core.Path.{_≡_, refl, sym, _∙_, ap}
-use Prim.Native.Nat.{ℕ, zero, suc, _+_, _-_, _*_, _/_, _%_, _≤_, _<_}
+use Prim.Native.Nat.{ℕ, _+_, _-_, _≤_, _<_}
 use mathlib.Core.Bool.{Bool, true, false, cond}
-use mathlib.Core.List.{List, [], _∷_, _++_, append-assoc, append-nil, map, map-append}
+use mathlib.Core.List.{List, [], _∷_, _++_, append-assoc, append-nil, map-append}
 use native.Mathlib.Omega.{arith}
 use native.Mathlib.Nat.{div-add-mod'}
-use lib.ListN.{length, length-append, take, drop, getD}
+use lib.ListN.{length, length-append}
 use lib.Seq.{take-at, getD-append-add}
-use lib.Dec.{eqb, ltb}
+use lib.Dec.{ltb}
 use borrow.Author.Tests.{ne-eqb, eq-eqb, lt-ltb}
-use Rattle.laws.specs.Bytes.{be16, le16, of16, be16At}
+use Rattle.laws.specs.Bytes.{le16}
 use Rattle.escaping.specs.Escapes.{meaning, escapedByte, escaped}
 use Rattle.escaping.proofs.Laws.{OnTheWire, itself, coded, escapedByte-on}
 use Rattle.link.specs.Wire as wire
 use Rattle.link.specs.Wire.{Frame, startOf, checkedOf, frameOf, bodyOf, encodedOf}
+use Rattle.link.proofs.Body.{length-bodyOf, frameOf-bodyOf}
 use Rattle.reading.specs.Kinds.{Kind, openings, frames, same}
 use Rattle.reading.specs.Grammar.{Line, idle, noisy, Piece, Reading, is7e}
-use Rattle.reading.specs.Counts.{Verdict, sound, checks, verdict, Rest, out, inside, inside-7e, left, one, count, soundBodies, soundFrames}
-use Rattle.reading.proofs.Machine.{Event, counted, closes, Beat, beat, run, reach}
+use Rattle.reading.specs.Counts.{sound, checks, verdict, Rest, out, inside, inside-7e, left, one, count, soundBodies, soundFrames}
+use Rattle.reading.proofs.Machine.{counted, closes, Beat, run, reach}
 use Rattle.reading.proofs.Books.{tally, bodies, count-more, left-more, soundBodies-more}
 use Rattle.reading.proofs.Verdicts.{verdict-sound}
 
 -- A FRAME'S BODY
-
--- what a frame's body says is the frame
-pub frameOf-bodyOf : (check : List ℕ → ℕ) (f : Frame) → frameOf (bodyOf check f) ≡ f
-frameOf-bodyOf check f =
-    let n : length (bodyOf check f) - 2 ≡ length (checkedOf f) = simp length-append (omega arith) in
-    let t : take (length (bodyOf check f) - 2) (bodyOf check f) ≡ checkedOf f = take-at (checkedOf f) (le16 (check (checkedOf f))) _ (sym n) in
-    rw (t, div-add-mod' (f .address) 256, div-add-mod' (f .kind) 256)
-
-pub length-bodyOf : (check : List ℕ → ℕ) (f : Frame) → length (bodyOf check f) ≡ length (f .payload) + 6
-length-bodyOf check f = simp length-append (omega arith)
 
 -- a list that carries its check is sound
 checks-append : (check : List ℕ → ℕ) (front : List ℕ) (c : ℕ) → check front ≡ c → checks check (front ++ le16 c) ≡ true
@@ -58,7 +49,7 @@ encodedOf-almostOf check f = simp append-assoc
 
 module _ (limit : ℕ) (check : List ℕ → ℕ) where
   -- events and rest of a run
-  abbrev goes : List ℕ → Rest → Beat
+  abbrev pub goes : List ℕ → Rest → Beat
   goes bs r = record { events = run limit check bs r; to = reach limit check bs r }
 
   -- one byte of the body

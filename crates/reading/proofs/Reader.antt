@@ -1,13 +1,12 @@
 -- One way to find a reading: byte by byte, with the unfinished piece in hand. A device of the proofs. Assumes nothing.
-use mathlib.Core.Path.{_≡_}
 use Prim.Native.Nat.{ℕ}
-use mathlib.Core.Bool.{Bool, true, false, cond}
+use mathlib.Core.Bool.{cond}
 use mathlib.Core.List.{List, [], _∷_, _++_}
 use mathlib.Core.Option.{Option, none, some}
 use lib.ListN.{length}
 use lib.Dec.{ltb}
 use Rattle.escaping.specs.Escapes.{Meaning, datum, opener, closer, neither, meaning}
-use Rattle.reading.specs.Grammar.{Line, idle, noisy, Unit, raw, pair, Opening, here, before, Ending, closed, broken-by, giant-by, escaped-by, unfinished, unfinished-7e, Start, whole, half, TailEnd, at-closer, at-opener, runs-out, runs-out-7e, Piece, outside-byte, outside-pair, outside-7e, frame, tail, Next, outside, opened, overlong, nothing, is7e, leadsTo, isNoise}
+use Rattle.reading.specs.Grammar.{Line, idle, noisy, Unit, raw, pair, Opening, here, before, closed, broken-by, giant-by, escaped-by, unfinished, unfinished-7e, whole, half, TailEnd, at-closer, at-opener, runs-out, runs-out-7e, Piece, outside-byte, outside-pair, outside-7e, frame, tail, Next, outside, opened, overlong, nothing, is7e, leadsTo, isNoise}
 
 -- the piece in hand: none, an outside 7e, a frame, a tail. A tail is led by nothing or by the second half of a pair; `due` awaits that half.
 pub data Hand : Type 0 where

@@ -1,17 +1,16 @@
 -- No second reading: whatever the rules allow, the reader finds it, so two readings of the same bytes are equal. Assumes nothing.
 use mathlib.Core.Path.{_≡_, refl, sym, _∙_, ap}
-use Prim.Native.Nat.{ℕ, suc, _+_, _≤_, _<_}
-use mathlib.Core.Bool.{Bool, true, false, cond}
+use Prim.Native.Nat.{ℕ, _+_, _≤_}
+use mathlib.Core.Bool.{true, false}
 use mathlib.Core.List.{List, [], _∷_, _++_, append-assoc, append-nil}
 use mathlib.Core.Option.{Option, none, some}
 use native.Mathlib.Omega.{arith}
 use lib.ListN.{length, length-append, drop}
-use lib.Dec.{ltb}
 use borrow.Author.Tests.{lt-ltb, le-ltb}
 use Rattle.escaping.specs.Escapes.{Meaning, datum, opener, closer, neither, meaning}
 use Rattle.reading.specs.Grammar as g
-use Rattle.reading.specs.Grammar.{Line, idle, noisy, Unit, raw, pair, Opening, here, before, Ending, closed, broken-by, giant-by, escaped-by, unfinished, unfinished-7e, Start, whole, half, TailEnd, at-closer, at-opener, runs-out, runs-out-7e, Piece, outside-byte, outside-pair, outside-7e, frame, tail, unitBytes, openerBytes, endingBytes, tailEndBytes, pieceBytes, join, Next, outside, opened, overlong, nothing, afterTail, breaks, skips, opens, DataUnit, Skipped, All, startsSo, Ends, by-closer, by-break, by-raw, by-escape, by-end, by-end-7e, Follows, may-end, must-end, byte, any-other-pair, lone-7e, opens-here, opened-before, one-tail, Reading}
-use Rattle.reading.proofs.Reader.{Hand, clear, clear-7e, in-frame, in-frame-7e, due, in-tail, in-tail-7e, Move, goes, gives, led, startAt, finish, pairOutside, pairInTail, pairDue, pairInFrame, step, pieces, piecesOf}
+use Rattle.reading.specs.Grammar.{noisy, Unit, raw, pair, Opening, here, before, Ending, closed, broken-by, whole, half, TailEnd, at-closer, at-opener, runs-out, runs-out-7e, Piece, outside-pair, frame, tail, unitBytes, endingBytes, tailEndBytes, join, Next, afterTail, breaks, skips, opens, DataUnit, Skipped, All, startsSo, Ends, by-closer, by-break, by-raw, by-escape, by-end, by-end-7e, Follows, may-end, must-end, byte, any-other-pair, lone-7e, opens-here, opened-before, one-tail, Reading}
+use Rattle.reading.proofs.Reader.{clear, in-frame, due, in-tail, goes, gives, led, startAt, pairOutside, pairInTail, pairDue, pairInFrame, pieces}
 
 -- what a pair does to the piece in hand, by the rule that it meets
 pairInTail-skips : (l : Option ℕ) (us : List Unit) (b : ℕ) (m : Meaning) → skips m ≡ true → pairInTail l us b m ≡ goes (in-tail l (us ++ (pair b ∷ [])))

@@ -1,16 +1,16 @@
 -- The body of a frame that is left open is within the limit. The receiver's room for it cites this. Assumes nothing.
-use mathlib.Core.Path.{_≡_, refl, sym}
-use Prim.Native.Nat.{ℕ, suc, _+_, _≤_, _<_}
-use mathlib.Core.Bool.{Bool, true, false, cond}
-use mathlib.Core.List.{List, [], _∷_, _++_}
+use mathlib.Core.Path.{_≡_, refl}
+use Prim.Native.Nat.{ℕ, _≤_}
+use mathlib.Core.Bool.{Bool, true, false}
+use mathlib.Core.List.{List, [], _∷_}
 use native.Mathlib.Omega.{arith}
 use lib.ListN.{length, length-append}
 use lib.Dec.{ltb}
 use borrow.Author.Tests.{ltb-true}
-use Rattle.escaping.specs.Escapes.{Meaning, datum, opener, closer, neither, meaning, unescapedOf}
+use Rattle.escaping.specs.Escapes.{Meaning, datum, opener, closer, neither, meaning}
 use Rattle.reading.specs.Grammar.{Line, idle, Piece, Reading, is7e}
 use Rattle.reading.specs.Counts.{Rest, out, out-7e, inside, inside-7e, over, over-7e, left, bodyLeft}
-use Rattle.reading.proofs.Machine.{Beat, beat, reach, rests}
+use Rattle.reading.proofs.Machine.{beat, reach, rests}
 
 module _ (limit : ℕ) (check : List ℕ → ℕ) where
   abbrev Within : Rest → Type 0

@@ -8,10 +8,6 @@ use lib.ListN.{length, drop}
 use lib.Dec.{eqb}
 use Rattle.escaping.specs.Escapes.{Meaning, datum, opener, closer, neither, meaning}
 
--- "closed by 7e 08 with at most 256 data units": 01's limit
-abbrev pub unitLimit : ℕ
-unitLimit = 256
-
 -- PIECES
 
 -- "Outside an open frame and the overlong tail" the line is Idle or in Noise

@@ -157,8 +157,10 @@ impl SlotCounter {
         let now_abs = abs_slots(self.epoch(), own);
         let past_abs = abs_slots(past.epoch(), old);
         if now_abs > past_abs {
-            return Since::Slots(now_abs - past_abs);
+            let ahead = now_abs - past_abs;
+            return Since::Slots(ahead);
         }
-        Since::Slots(48000 - past_abs + now_abs)
+        let around = 48000 - past_abs + now_abs;
+        Since::Slots(around)
     }
 }

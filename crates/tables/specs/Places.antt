@@ -1,4 +1,5 @@
 -- A table in 01's words: a list of places, each free or holding a key and a value. Assumes nothing.
+use mathlib.Core.Path.{_≡_}
 use Prim.Native.Nat.{ℕ, zero, suc}
 use mathlib.Core.Bool.{Bool, true, false, cond, not, _||_}
 use mathlib.Core.List.{List, [], _∷_}
@@ -59,6 +60,17 @@ module _ {A : Type 0} where
   -- what is held under a key
   abbrev pub valueAt : List (Place A) → ℕ → Option A
   valueAt ps k = valueIn (getD ps (holder ps k) free)
+
+  -- no key is held at two places
+  abbrev pub Distinct : List (Place A) → Type 0
+  Distinct ps = (i j k : ℕ) → holds k (getD ps i free) ≡ true → holds k (getD ps j free) ≡ true → i ≡ j
+
+  -- a finite map as the source has it (`BTreeMap`), by what a look-up gives: after an insert, and after a remove
+  abbrev pub inserted : (ℕ → Option A) → ℕ → A → ℕ → Option A
+  inserted m k v j = cond (eqb j k) (some v) (m j)
+
+  abbrev pub deleted : (ℕ → Option A) → ℕ → ℕ → Option A
+  deleted m k j = cond (eqb j k) none (m j)
 
   -- what a key and a value say of a place
   abbrev pub placeOf : ℕ → A → Place A

@@ -1,2 +1,4 @@
 pub mod Pool
+pub mod Read
 pub mod Refines
+pub mod Reached

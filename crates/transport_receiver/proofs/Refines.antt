@@ -11,15 +11,19 @@ use Rattle.laws.specs.Bytes.{be16At}
 use Rattle.tables.specs.Keys.{firstOf, seatOf, overOf}
 use Rattle.tables.specs.Places.{Place, free, held, hasRoom, isHeld, placesOf, valueAt}
 use Rattle.tables.proofs.Laws.{first-holds}
-use Rattle.tables.proofs.Places.{hasRoom-places, isHeld-places, stored-numbers, stored-again, valueAt-held, valueAt-none, removed-places, seat-held, seat-new}
+use Rattle.tables.proofs.Places.{hasRoom-places, isHeld-places, stored-numbers, stored-again, replaced-numbers, valueAt-held, valueAt-none, removed-places, seat-held, seat-new}
 use Rattle.utf8.specs.Scan.{isText}
+use Rattle.transport.specs.Status.{acceptedOf, neededOf}
+use Rattle.transport.specs.Number.{numberOf}
+use Rattle.transport.specs.Response.{receiveReadOf, responseIn}
 use Rattle.address.specs.Address.{addressOf}
 use Rattle.transport_receiver.specs.Counters
 use Rattle.transport_receiver.specs.Types
+use Rattle.transport_receiver.specs.Types.{counterOf}
 use Rattle.transport_receiver.specs.State.{State, Frame, stateOf, commandKey, commandIn}
-use Rattle.transport_receiver.specs.Step.{Result, stepOf, handledOf, isLast}
+use Rattle.transport_receiver.specs.Step.{Result, stepOf, handledOf, isLast, overLimit}
 use Rattle.transport_receiver.specs.Handed.{told}
-use Rattle.transport_receiver.specs.Lent.{receiveRequestIn, identityIn, enumerationEndIn, versionIn, enumerationStartIn, isLastIn, noteIn, keepIn, commandRequestIn, commandResponseIn, notedOf, seatedOf, afterAsked, afterCounted, afterRequested, afterAnswered}
+use Rattle.transport_receiver.specs.Lent.{receiveRequestIn, identityIn, enumerationEndIn, versionIn, enumerationStartIn, isLastIn, noteIn, keepIn, commandRequestIn, commandResponseIn, receiveResponseIn, goodIn, notedOf, seatedOf, afterAsked, afterCounted, afterRequested, afterAnswered, afterReceived, countIn, untabledIn, handledIn, stepIn}
 use Rattle.transport_receiver.specs.declared.Receiver.{Receiver}
 use Rattle.transport_receiver.proofs.Pool.{by, overLimit-places, stored-commands}
 
@@ -130,3 +134,152 @@ module _ (r : Receiver) (from : Bool) (g : ℕ) (p : List ℕ) where
       (λ t. rw (e, l, hc, z .ckeys, t) (rw (removed-places (commandIn (r .ctypes) (r .clengths) (r .cpayloads)) (r .ckeys) key, valueAt-held (commandIn (r .ctypes) (r .clengths) (r .cpayloads)) (r .ckeys) key (rw (z .ckeys) (ltb-true _ _ t)))))
       (λ t. rw (e, l, hc, z .ckeys, t))))
       (λ e. rw e)
+
+  receive-response : Sized r → told (frame from g Types.receive-response p) (afterReceived r (receiveResponseIn (r .nkeys) (r .numbers) (r .counters) from g p)) ≡ handledOf (stateOf r) (frame from g Types.receive-response p)
+  unfolding handledOf receiveResponseIn receiveReadOf responseIn goodIn stateOf
+  receive-response z =
+      let i = firstOf (r .nkeys) (suc g) in
+      let hn = isHeld-places (λ i. getD (r .numbers) i 0) (r .nkeys) g in
+      by from
+      (λ e. by (ltb (firstOf (r .nkeys) (suc g)) 32)
+      (λ t. by (ltb (length p) 2) (λ l. rw (e, hn, z .nkeys, t, l))
+      (λ l. by (acceptedOf (be16At p 0))
+      (λ a. by (ltb (length p) (neededOf (be16At p 0)))
+      (λ n. rw (e, hn, z .nkeys, t, l, a, n))
+      (λ n. rw (e, valueAt-held (λ i. getD (r .numbers) i 0) (r .nkeys) g (rw (z .nkeys) (ltb-true _ _ t)), ← replaced-numbers (r .nkeys) (r .numbers) g (numberOf (be16At p 0) p (getD (r .numbers) i 0)) (z .numbers ∙ sym (z .nkeys)) (rw (z .nkeys) (ltb-true _ _ t)), hn, z .nkeys, t, l, a, n)))
+      (λ a. rw (e, hn, z .nkeys, t, l, a))))
+      (λ t. rw (e, hn, z .nkeys, t)))
+      (λ e. rw e)
+
+-- any type, the eighteen one by one and then the rest
+module _ (r : Receiver) (z : Sized r) (within : overOf (r .ckeys) (r .clengths) 245 ≡ false) (from : Bool) (g : ℕ) (p : List ℕ) (few : length p ≤ 250) where
+  abbrev Refined : ℕ → Type 0
+  Refined kind = told (frame from g kind p) (handledIn r (frame from g kind p)) ≡ handledOf (stateOf r) (frame from g kind p)
+
+  abbrev at : (kind : ℕ) {P : Type 0} (t : ℕ) → (kind ≡ t → P) → (eqb kind t ≡ false → P) → P
+  at kind t hit miss = by (eqb kind t) (λ e. hit (eqb-true kind t e)) miss
+
+  is-receive-request : Refined Types.receive-request
+  unfolding handledIn
+  is-receive-request = receive-request r from g p z
+
+  is-receive-response : Refined Types.receive-response
+  unfolding handledIn
+  is-receive-response = receive-response r from g p z
+
+  is-command-request : Refined Types.command-request
+  unfolding handledIn
+  is-command-request = command-request r from g p z within few
+
+  is-command-response : Refined Types.command-response
+  unfolding handledIn
+  is-command-response = command-response r from g p z
+
+  is-enumeration-start-request : Refined Types.enumeration-start-request
+  unfolding handledIn untabledIn
+  is-enumeration-start-request = enumeration-start r from g p
+
+  is-enumeration-response : Refined Types.enumeration-response
+  unfolding handledIn untabledIn
+  is-enumeration-response = enumeration-response r from g p
+
+  is-identify-response : Refined Types.identify-response
+  unfolding handledIn untabledIn
+  is-identify-response = identify r from g p
+
+  is-version-response : Refined Types.version-response
+  unfolding handledIn untabledIn
+  is-version-response = version r from g p
+
+  is-enumeration-end-response : Refined Types.enumeration-end-response
+  unfolding handledIn untabledIn
+  is-enumeration-end-response = enumeration-end r from g p
+
+  is-ping-request : Refined Types.ping-request
+  unfolding handledIn untabledIn countIn counterOf handledOf stateOf
+  is-ping-request = refl
+
+  is-ping-response : Refined Types.ping-response
+  unfolding handledIn untabledIn countIn counterOf handledOf stateOf
+  is-ping-response = refl
+
+  is-enumeration-start-response : Refined Types.enumeration-start-response
+  unfolding handledIn untabledIn countIn counterOf handledOf stateOf
+  is-enumeration-start-response = refl
+
+  is-enumeration-request : Refined Types.enumeration-request
+  unfolding handledIn untabledIn countIn counterOf handledOf stateOf
+  is-enumeration-request = refl
+
+  is-assign-gateway-id-request : Refined Types.assign-gateway-id-request
+  unfolding handledIn untabledIn countIn counterOf handledOf stateOf
+  is-assign-gateway-id-request = refl
+
+  is-assign-gateway-id-response : Refined Types.assign-gateway-id-response
+  unfolding handledIn untabledIn countIn counterOf handledOf stateOf
+  is-assign-gateway-id-response = refl
+
+  is-identify-request : Refined Types.identify-request
+  unfolding handledIn untabledIn countIn counterOf handledOf stateOf
+  is-identify-request = refl
+
+  is-version-request : Refined Types.version-request
+  unfolding handledIn untabledIn countIn counterOf handledOf stateOf
+  is-version-request = refl
+
+  is-enumeration-end-request : Refined Types.enumeration-end-request
+  unfolding handledIn untabledIn countIn counterOf handledOf stateOf
+  is-enumeration-end-request = refl
+
+  refines-handled : (kind : ℕ) → Refined kind
+  unfolding handledIn untabledIn countIn counterOf handledOf stateOf
+  refines-handled kind =
+      at kind Types.receive-request (λ e. rw e is-receive-request)
+      (λ n1. at kind Types.receive-response (λ e. rw e is-receive-response)
+      (λ n2. at kind Types.command-request (λ e. rw e is-command-request)
+      (λ n3. at kind Types.command-response (λ e. rw e is-command-response)
+      (λ n4. at kind Types.enumeration-start-request (λ e. rw e is-enumeration-start-request)
+      (λ n5. at kind Types.enumeration-response (λ e. rw e is-enumeration-response)
+      (λ n6. at kind Types.identify-response (λ e. rw e is-identify-response)
+      (λ n7. at kind Types.version-response (λ e. rw e is-version-response)
+      (λ n8. at kind Types.enumeration-end-response (λ e. rw e is-enumeration-end-response)
+      (λ n9. at kind Types.ping-request (λ e. rw e is-ping-request)
+      (λ n10. at kind Types.ping-response (λ e. rw e is-ping-response)
+      (λ n11. at kind Types.enumeration-start-response (λ e. rw e is-enumeration-start-response)
+      (λ n12. at kind Types.enumeration-request (λ e. rw e is-enumeration-request)
+      (λ n13. at kind Types.assign-gateway-id-request (λ e. rw e is-assign-gateway-id-request)
+      (λ n14. at kind Types.assign-gateway-id-response (λ e. rw e is-assign-gateway-id-response)
+      (λ n15. at kind Types.identify-request (λ e. rw e is-identify-request)
+      (λ n16. at kind Types.version-request (λ e. rw e is-version-request)
+      (λ n17. at kind Types.enumeration-end-request (λ e. rw e is-enumeration-end-request)
+      (λ n18. rw (n1, n2, n3, n4, n5, n6, n7, n8, n9, n10, n11, n12, n13, n14, n15, n16, n17, n18)))))))))))))))))))
+
+-- 12, 13 and 32 are asked of the arrays as of the tables; behind them both steps go by the type
+module _ (r : Receiver) (f : Frame) where
+  over-same : overLimit (stateOf r .commands) ≡ overOf (r .ckeys) (r .clengths) 245
+  unfolding stateOf
+  over-same = overLimit-places (r .ckeys) (r .ctypes) (r .clengths) (r .cpayloads)
+
+  refused-12 : overOf (r .ckeys) (r .clengths) 245 ≡ true → told f (stepIn r f) ≡ stepOf (stateOf r) f
+  unfolding stepIn stepOf
+  refused-12 a = rw (over-same, a)
+
+  refused-13 : overOf (r .ckeys) (r .clengths) 245 ≡ false → ltb 0x7fff (f .gateway) ≡ true → told f (stepIn r f) ≡ stepOf (stateOf r) f
+  unfolding stepIn stepOf
+  refused-13 a b = rw (over-same, a, b)
+
+  refused-32 : overOf (r .ckeys) (r .clengths) 245 ≡ false → ltb 0x7fff (f .gateway) ≡ false → ltb 250 (length (f .payload)) ≡ true → told f (stepIn r f) ≡ stepOf (stateOf r) f
+  unfolding stepIn stepOf
+  refused-32 a b c = rw (over-same, a, b, c)
+
+  passed : overOf (r .ckeys) (r .clengths) 245 ≡ false → ltb 0x7fff (f .gateway) ≡ false → ltb 250 (length (f .payload)) ≡ false → told f (handledIn r f) ≡ handledOf (stateOf r) f → told f (stepIn r f) ≡ stepOf (stateOf r) f
+  unfolding stepIn stepOf handledOf
+  passed a b c e = rw (over-same, a, b, c) e
+
+-- the step over the arrays is 01's step over the tables that they mean
+pub refines : (r : Receiver) → Sized r → (f : Frame) → told f (stepIn r f) ≡ stepOf (stateOf r) f
+refines r z f =
+    by (overOf (r .ckeys) (r .clengths) 245) (refused-12 r f)
+    (λ a. by (ltb 0x7fff (f .gateway)) (refused-13 r f a)
+    (λ b. by (ltb 250 (length (f .payload))) (refused-32 r f a b)
+    (λ c. passed r f a b c (refines-handled r z a (f .from) (f .gateway) (f .payload) (ltb-false 250 (length (f .payload)) c) (f .kind)))))

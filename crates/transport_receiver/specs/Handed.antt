@@ -32,7 +32,7 @@ handed pool f IdentityObserved = event (identity (f .gateway) (take 8 (f .payloa
 handed pool f VersionObserved = event (version (f .gateway) (f .payload))
 handed pool f EnumerationEnded = event (enumeration-ended (f .gateway))
 handed pool f SlotCounterCaptured = event (slot-captured (f .gateway))
-handed pool f (SlotCounterObserved number slot repeat area) = event (slot-counter (f .gateway) slot repeat (drop area (f .payload)))
+handed pool f (SlotCounterObserved number slot repeat area) = event (slot-counter (f .gateway) (slot .0) repeat (drop area (f .payload)))
 handed pool f (CommandExecuted place request length response) = event (command (f .gateway) request (payloadAt pool place length) response (drop 5 (f .payload)))
 
 -- what a step says of a frame: what it hands back, and the tables and counters after it

@@ -1,22 +1,28 @@
 -- What a frame does to the arrays that a function is lent. Assumes nothing.
 use Prim.Native.Nat.{ℕ, suc, _+_, _-_, _*_}
 use mathlib.Core.Bool.{Bool, true, false, cond}
-use mathlib.Core.List.{List}
-use lib.ListN.{length, getD, set, drop}
+use mathlib.Core.List.{List, []}
+use lib.ListN.{length, getD, set, drop, replicate}
 use lib.Seq.{paste}
 use lib.Dec.{eqb, ltb}
 use Rattle.laws.specs.Bytes.{be16At}
-use Rattle.tables.specs.Keys.{firstOf, seatOf}
+use Rattle.tables.specs.Keys.{firstOf, seatOf, overOf}
 use Rattle.transport_receiver.specs.Counters
 use Rattle.transport_receiver.specs.Counters.{raise}
-use Rattle.transport_receiver.specs.State.{commandKey}
+use Rattle.transport_receiver.specs.State.{commandKey, Frame, payloadAt}
 use Rattle.transport_receiver.specs.Types
 use Rattle.transport_receiver.specs.Types.{counterOf}
 use Rattle.utf8.specs.Scan.{isText}
+use Rattle.transport.specs.declared.ReceiveResponse.{ReceiveResponse}
+use Rattle.transport.specs.declared.ReceiveRead.{ReceiveRead}
+use Rattle.transport.specs.declared.ReceiveRead.the-variants as read
+use Rattle.transport.specs.Response.{receiveReadOf}
+use Rattle.transport_receiver.specs.Step.{repeats, countPackets}
 use Rattle.transport_receiver.specs.declared.Receiver.{Receiver}
 use Rattle.transport_receiver.specs.declared.Stepped.{Stepped}
+use Rattle.transport_receiver.specs.declared.WasReset.{WasReset}
 use Rattle.transport_receiver.specs.declared.Answer.{Answer}
-use Rattle.transport_receiver.specs.declared.Answer.the-variants.{WrongDirection, WrongLength, NumbersFull, SequencesFull, CommandsFull, NoRequest, CommandKept, SlotCounterCaptured, CommandExecuted, NamesFrom, InvalidVersion, UnhandledType, EnumerationStarted, IdentityObserved, VersionObserved, EnumerationEnded}
+use Rattle.transport_receiver.specs.declared.Answer.the-variants.{WrongDirection, WrongLength, NumbersFull, SequencesFull, CommandsFull, NoRequest, CommandKept, SlotCounterCaptured, CommandExecuted, OverLimit, InvalidGatewayID, PayloadTooLong, TooShort, UnknownStatusType, UnknownGateway, SlotCounterObserved, NamesFrom, InvalidVersion, UnhandledType, EnumerationStarted, IdentityObserved, VersionObserved, EnumerationEnded}
 use Rattle.transport_receiver.specs.declared.Answer.the-variants as variant
 
 -- an answer, and the counters after it
@@ -48,6 +54,37 @@ receiveRequestIn ks ns cs from g p =
     cond from (asked WrongDirection ks ns (raise Counters.invalid-receive-request cs))
     (cond (eqb (length p) 5) (askedAt (seatOf ks (suc g)) ks ns cs g p)
     (asked WrongLength ks ns (raise Counters.invalid-receive-request cs)))
+
+-- a receive response
+pub record Received : Type 0 where
+  pub answer : Answer
+  pub numbers : List ℕ
+  pub counters : List ℕ
+
+abbrev pub received : Answer → List ℕ → List ℕ → Received
+received a ns cs = record { answer = a; numbers = ns; counters = cs }
+
+-- a good one, of a gateway whose number stands at place i
+unfoldable pub goodIn : ReceiveResponse → ℕ → ℕ → List ℕ → List ℕ → List ℕ → Received
+goodIn r area i ns cs p =
+    received
+    (SlotCounterObserved (r .«packet_number») (r .«slot_counter») (repeats (r .«packet_number» .0) (getD ns i 0) (drop area p)) area)
+    (set ns i (r .«packet_number» .0))
+    (countPackets (drop area p) (raise Counters.receive-responses cs))
+
+-- what is read of it
+abbrev pub readIn : ReceiveRead → ℕ → List ℕ → List ℕ → List ℕ → Received
+readIn (read.TooShort n) i ns cs p = received (TooShort n) ns (raise Counters.invalid-receive-responses cs)
+readIn (read.UnknownStatusType s) i ns cs p = received UnknownStatusType ns (raise Counters.invalid-receive-responses cs)
+readIn (read.Response r area) i ns cs p = goodIn r area i ns cs p
+
+unfoldable pub receiveResponseIn : List ℕ → List ℕ → List ℕ → Bool → ℕ → List ℕ → Received
+receiveResponseIn ks ns cs from g p =
+    cond from
+    (cond (ltb (firstOf ks (suc g)) 32)
+    (readIn (receiveReadOf p (getD ns (firstOf ks (suc g)) 0)) (firstOf ks (suc g)) ns cs p)
+    (received UnknownGateway ns (raise Counters.receive-response-from-unknown-gateway cs)))
+    (received WrongDirection ns (raise Counters.invalid-receive-responses cs))
 
 -- the arrays of the waiting commands
 pub record Seated : Type 0 where
@@ -190,3 +227,42 @@ notedOf r = noted (r .skeys) (r .sequences) (r .counters)
 
 abbrev pub seatedOf : Receiver → Seated
 seatedOf r = record { ckeys = r .ckeys; ctypes = r .ctypes; clengths = r .clengths; cpayloads = r .cpayloads }
+
+abbrev pub afterReceived : Receiver → Received → Stepped
+afterReceived r a = record { answer = a .answer; receiver = record { nkeys = r .nkeys; numbers = a .numbers; skeys = r .skeys; sequences = r .sequences; ckeys = r .ckeys; ctypes = r .ctypes; clengths = r .clengths; cpayloads = r .cpayloads; counters = a .counters } }
+
+-- nine arrays as a state
+abbrev pub arrays : List ℕ → List ℕ → List ℕ → List ℕ → List ℕ → List ℕ → List ℕ → List ℕ → List ℕ → Receiver
+arrays nk n sk s ck ct cl cp cs =
+    record { nkeys = nk; numbers = n; skeys = sk; sequences = s; ckeys = ck; ctypes = ct; clengths = cl; cpayloads = cp; counters = cs }
+
+abbrev pub stepped : Answer → Receiver → Stepped
+stepped a r = record { answer = a; receiver = r }
+
+-- a frame by its type
+unfoldable pub handledIn : Receiver → Frame → Stepped
+handledIn r f =
+    cond (eqb (f .kind) Types.receive-request) (afterAsked r (receiveRequestIn (r .nkeys) (r .numbers) (r .counters) (f .from) (f .gateway) (f .payload)))
+    (cond (eqb (f .kind) Types.receive-response) (afterReceived r (receiveResponseIn (r .nkeys) (r .numbers) (r .counters) (f .from) (f .gateway) (f .payload)))
+    (cond (eqb (f .kind) Types.command-request) (afterRequested r (commandRequestIn (notedOf r) (seatedOf r) (f .from) (f .gateway) (f .payload)))
+    (cond (eqb (f .kind) Types.command-response) (afterAnswered r (commandResponseIn (r .ckeys) (r .ctypes) (r .clengths) (r .counters) (f .from) (f .gateway) (f .payload)))
+    (afterCounted r (untabledIn (r .counters) (f .from) (f .gateway) (f .kind) (f .payload))))))
+
+-- the whole step: 12, 13 and 32 first, with nothing changed
+unfoldable pub stepIn : Receiver → Frame → Stepped
+stepIn r f =
+    cond (overOf (r .ckeys) (r .clengths) 245) (stepped OverLimit r)
+    (cond (ltb 0x7fff (f .gateway)) (stepped InvalidGatewayID r)
+    (cond (ltb 250 (length (f .payload))) (stepped PayloadTooLong r)
+    (handledIn r f)))
+
+-- the payload at a place of the pool; empty where no such place or length is
+unfoldable pub requestPayload : List ℕ → ℕ → ℕ → List ℕ
+requestPayload pool place size =
+    cond (ltb place 64) (cond (ltb 245 size) [] (payloadAt pool place size)) []
+
+-- 01, "Transport": their reset clears nothing else; 12 refuses it too
+unfoldable pub resetIn : Receiver → WasReset
+resetIn r =
+    cond (overOf (r .ckeys) (r .clengths) 245) (record { receiver = r; over = true })
+    (record { receiver = record { nkeys = r .nkeys; numbers = r .numbers; skeys = r .skeys; sequences = r .sequences; ckeys = r .ckeys; ctypes = r .ctypes; clengths = r .clengths; cpayloads = r .cpayloads; counters = replicate 33 0 }; over = false })

@@ -4,3 +4,4 @@ pub mod State
 pub mod Lent
 pub mod Step
 pub mod Handed
+pub mod Reached

@@ -2,7 +2,10 @@
 use Prim.Native.Nat.{ℕ, _+_, _*_}
 use mathlib.Core.Bool.{Bool}
 use mathlib.Core.List.{List}
-use lib.ListN.{getD, take, drop}
+use lib.ListN.{getD, take, drop, replicate}
+use Rattle.address.specs.Address.{isFrom, gatewayOf}
+use Rattle.address.specs.declared.Address.{Address}
+use Rattle.link.specs.declared.Type as link
 use Rattle.tables.specs.Places.{Place, placesOf}
 use Rattle.transport_receiver.specs.declared.Receiver.{Receiver}
 
@@ -50,3 +53,24 @@ pub record Frame : Type 0 where
   pub gateway : ℕ
   pub kind : ℕ
   pub payload : List ℕ
+
+abbrev pub given : Bool → ℕ → ℕ → List ℕ → Frame
+given from gateway kind payload = record { from = from; gateway = gateway; kind = kind; payload = payload }
+
+abbrev pub frameOf : Address → link.Type → List ℕ → Frame
+frameOf address kind payload = given (isFrom address) (gatewayOf address) (kind .0) payload
+
+-- a fresh receiver: every place free, every counter 0
+abbrev pub fresh : Receiver
+fresh =
+    record {
+      nkeys = replicate 32 0;
+      numbers = replicate 32 0;
+      skeys = replicate 32 0;
+      sequences = replicate 32 0;
+      ckeys = replicate 64 0;
+      ctypes = replicate 64 0;
+      clengths = replicate 64 0;
+      cpayloads = replicate 15680 0;
+      counters = replicate 33 0;
+    }

@@ -165,6 +165,10 @@ abbrev pub isLast : Option ℕ → ℕ → Bool
 isLast none n = false
 isLast (some m) n = eqb m n
 
+-- a request's packet type and payload
+abbrev pub requestOf : List ℕ → Command
+requestOf p = record { kind = getD p 3 0; size = length (drop 5 p); payload = drop 5 p }
+
 -- a command request is kept under gateway and sequence, replacing an older one there
 abbrev pub kept : State → Frame → Result
 kept s f =
@@ -173,7 +177,7 @@ kept s f =
       state = record {
         numbers = s .numbers;
         sequences = stored (s .sequences) (f .gateway) (sequenceOf (f .payload));
-        commands = stored (s .commands) (keyOf f) (record { kind = getD (f .payload) 3 0; size = length (drop 5 (f .payload)); payload = drop 5 (f .payload) });
+        commands = stored (s .commands) (keyOf f) (requestOf (f .payload));
         counters = raise (cond (isLast (valueAt (s .sequences) (f .gateway)) (sequenceOf (f .payload))) Counters.retransmitted-command-requests Counters.command-requests) (s .counters);
       };
     }

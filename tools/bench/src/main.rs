@@ -1,1 +1,236 @@
-fn main() {}
+//! The race: the Rust and the proved side on the same bytes in one process, run by turns, best and median of many.
+//!
+//!     race [ROUNDS [MIB]]
+use driver::doors;
+use driver::doors::link as ours;
+use driver::make;
+use driver::oracle::{self, Plain};
+use driver::rng::Rng;
+use std::hint::black_box;
+use taptap::gateway::link::{self, Frame};
+
+struct Row {
+    name: &'static str,
+    bytes: usize,
+    rust: Box<dyn FnMut() -> u64>,
+    ours: Box<dyn FnMut() -> u64>,
+}
+
+/// Nanoseconds a byte: the least of the rounds, and the one in their middle.
+fn figures(times: &mut [f64], bytes: usize) -> (f64, f64) {
+    times.sort_by(f64::total_cmp);
+    (times[0] / bytes as f64, times[times.len() / 2] / bytes as f64)
+}
+
+/// Nanoseconds that this thread has had a processor: on a shared machine a clock on the wall counts its neighbours too.
+fn clock() -> f64 {
+    #[repr(C)]
+    struct Time {
+        seconds: i64,
+        nanoseconds: i64,
+    }
+    extern "C" {
+        fn clock_gettime(clock: i32, time: *mut Time) -> i32;
+    }
+    const THREAD_CPU_TIME: i32 = 3;
+    let mut time = Time { seconds: 0, nanoseconds: 0 };
+    assert_eq!(unsafe { clock_gettime(THREAD_CPU_TIME, &mut time) }, 0, "a clock");
+    time.seconds as f64 * 1e9 + time.nanoseconds as f64
+}
+
+fn timed(f: &mut dyn FnMut() -> u64) -> (f64, u64) {
+    let start = clock();
+    let result = black_box(f());
+    (clock() - start, result)
+}
+
+fn race(row: &mut Row, rounds: usize) {
+    let (mut rust, mut ours) = (Vec::new(), Vec::new());
+    for round in 0..rounds {
+        // who goes first changes, so that neither always finds the cache warm
+        let (a, b) = if round % 2 == 0 {
+            let a = timed(&mut row.rust);
+            (a, timed(&mut row.ours))
+        } else {
+            let b = timed(&mut row.ours);
+            (timed(&mut row.rust), b)
+        };
+        assert_eq!(a.1, b.1, "{}: the two sides disagree", row.name);
+        rust.push(a.0);
+        ours.push(b.0);
+    }
+    let (r, o) = (figures(&mut rust, row.bytes), figures(&mut ours, row.bytes));
+    println!(
+        "| {:<42} | {:>6.2} | {:>6.2} | {:>6.0} | {:>6.2} | {:>6.2} | {:>6.0} | {:>5.2} | {:>5.2} |",
+        row.name,
+        r.0,
+        r.1,
+        1000.0 / r.0,
+        o.0,
+        o.1,
+        1000.0 / o.0,
+        o.0 / r.0,
+        o.1 / r.1
+    );
+}
+
+// ---- the link receiver
+
+/// A sink that looks at each frame as little as it may: it adds up the payloads' lengths.
+#[derive(Debug, Default)]
+struct Lengths(u64);
+
+impl link::Sink for Lengths {
+    fn frame(&mut self, frame: Frame) {
+        self.0 += frame.payload.len() as u64;
+    }
+}
+
+/// The five counters as one number.
+fn told(frames: u64, runts: u64, checksums: u64, giants: u64, noise: u64) -> u64 {
+    [frames, runts, checksums, giants, noise].iter().fold(0, |sum, n| sum.wrapping_mul(1_000_003).wrapping_add(*n))
+}
+
+fn rust_ledger(s: &[u8]) -> u64 {
+    let mut r = link::Receiver::new(Lengths::default());
+    r.extend_from_slice(s);
+    let c = r.counters();
+    told(c.frames, c.runts, c.checksums, c.giants, c.noise)
+}
+
+fn our_ledger(s: &[u8]) -> u64 {
+    let p = ours::ledger(s);
+    told(p[3], p[4], p[5], p[6], p[9])
+}
+
+fn rust_frames(s: &[u8]) -> u64 {
+    let mut r = link::Receiver::new(Lengths::default());
+    r.extend_from_slice(s);
+    let c = r.counters();
+    told(c.frames, c.runts, c.checksums, c.giants, c.noise).wrapping_add(r.sink().0)
+}
+
+fn our_frames(s: &[u8]) -> u64 {
+    let mut r = ours::Receiver::new();
+    let mut sum = 0;
+    let mut at = 0;
+    while at < s.len() {
+        if r.feed(&s[at..]) == Ok(1) {
+            sum += r.found[3];
+        }
+        at += r.found[0] as usize;
+    }
+    let p = &r.place;
+    told(p[3], p[4], p[5], p[6], p[9]).wrapping_add(sum)
+}
+
+fn receiver_rows(rows: &mut Vec<Row>, ledger: &'static str, frames: &'static str, stream: Vec<u8>) {
+    let stream: &'static [u8] = Box::leak(stream.into_boxed_slice());
+    rows.push(Row {
+        name: ledger,
+        bytes: stream.len(),
+        rust: Box::new(move || rust_ledger(black_box(stream))),
+        ours: Box::new(move || our_ledger(black_box(stream))),
+    });
+    rows.push(Row {
+        name: frames,
+        bytes: stream.len(),
+        rust: Box::new(move || rust_frames(black_box(stream))),
+        ours: Box::new(move || our_frames(black_box(stream))),
+    });
+}
+
+fn repeated(size: usize, mut one: impl FnMut() -> Vec<u8>) -> Vec<u8> {
+    let mut out = Vec::with_capacity(size + 8192);
+    while out.len() < size {
+        out.extend(one());
+    }
+    out
+}
+
+// ---- the check
+
+fn check_row(name: &'static str, size: usize, slice: usize) -> Row {
+    let data: &'static [u8] = Box::leak(Rng::new(3).bytes(size).into_boxed_slice());
+    Row {
+        name,
+        bytes: size,
+        rust: Box::new(move || black_box(data).chunks(slice).map(|s| u64::from(oracle::crc::crc(s))).sum()),
+        ours: Box::new(move || black_box(data).chunks(slice).map(|s| u64::from(doors::crc(s))).sum()),
+    }
+}
+
+// ---- encode
+
+/// Frames of a capture's mixture, encoded one by one: by the Rust into a new `Vec`, by ours into one lent buffer that is never cleared.
+fn encode_row(name: &'static str, frames: Vec<Plain>) -> Row {
+    let bytes = frames.iter().map(|f| f.payload.len() + 6).sum();
+    let taken: Vec<Frame> = frames.iter().map(Plain::frame).collect();
+    let mut out = [0; 519];
+    Row {
+        name,
+        bytes,
+        rust: Box::new(move || black_box(&taken).iter().map(|f| sum(&f.encode())).sum()),
+        ours: Box::new(move || {
+            let mut total = 0;
+            for f in black_box(&frames) {
+                let n = doors::encode(f.address >= 0x8000, f.address & 0x7fff, f.kind, &f.payload, &mut out).expect("room") as usize;
+                total += sum(&out[..n]);
+            }
+            total
+        }),
+    }
+}
+
+/// A look at what was written: its length and its ends.
+fn sum(wire: &[u8]) -> u64 {
+    wire.len() as u64 + u64::from(wire[wire.len() - 3])
+}
+
+fn main() {
+    let words: Vec<usize> = std::env::args().skip(1).map(|w| w.parse().expect("race [ROUNDS [MIB]]: numbers")).collect();
+    let rounds = words.first().copied().unwrap_or(21);
+    let size = words.get(1).copied().unwrap_or(16) << 20;
+    let mut rng = Rng::new(2);
+    let mut rows = vec![check_row("crc, slices of 64 bytes", size, 64), check_row("crc, slices of 254 bytes", size, 254)];
+    let frames = |rng: &mut Rng, a, b| {
+        let mut frames = Vec::new();
+        let mut bytes = 0;
+        while bytes < size / 4 {
+            let n = rng.within(a, b);
+            frames.push(frame(rng, n));
+            bytes += n + 6;
+        }
+        frames
+    };
+    rows.push(encode_row("encode, payloads of 0 to 14", frames(&mut rng, 0, 14)));
+    rows.push(encode_row("encode, payloads of 20 to 120", frames(&mut rng, 20, 120)));
+    rows.push(encode_row("encode, payloads of 194 to 250", frames(&mut rng, 194, 250)));
+    receiver_rows(&mut rows, "receiver, capture: ledger", "receiver, capture: frames handed out", make::capture(1, size));
+    let short = repeated(size, || {
+        let n = rng.within(0, 14);
+        frame(&mut rng, n).encode()
+    });
+    receiver_rows(&mut rows, "receiver, bodies of 6 to 20: ledger", "receiver, bodies of 6 to 20: frames", short);
+    let long = repeated(size, || {
+        let n = rng.within(194, 250);
+        frame(&mut rng, n).encode()
+    });
+    receiver_rows(&mut rows, "receiver, bodies of 200 to 256: ledger", "receiver, bodies of 200 to 256: frames", long);
+    receiver_rows(&mut rows, "receiver, idle ff: ledger", "receiver, idle ff: frames", vec![0xff; size]);
+    receiver_rows(&mut rows, "receiver, noise: ledger", "receiver, noise: frames", rng.bytes(size));
+    let tails = repeated(size, || make::units(&mut rng, 4000, false, &[0x7e, 0x08]));
+    receiver_rows(&mut rows, "receiver, overlong tails: ledger", "receiver, overlong tails: frames", tails);
+
+    println!("{rounds} rounds by turns; {} MiB a row; ns a byte, then MB/s at the best; below 1 in the last two columns ours is faster", size >> 20);
+    println!("| row | Rust best | median | MB/s | ours best | median | MB/s | best/best | median/median |");
+    println!("|---|---|---|---|---|---|---|---|---|");
+    for row in &mut rows {
+        race(row, rounds);
+    }
+}
+
+/// A frame of a payload of random bytes.
+fn frame(rng: &mut Rng, len: usize) -> Plain {
+    Plain { address: rng.word(), kind: rng.pick(&make::TYPES), payload: rng.bytes(len) }
+}

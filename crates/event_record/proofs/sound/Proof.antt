@@ -27,13 +27,13 @@ add-if2 : tie.Need-add-if2
 add-if2 c = omega (arith, c .pair .ensures, c .before .shared-slice-known3 .given 0, c .before .shared-slice-known3 .given 1)
 
 returns-2 : tie.Need-returns-2
-returns-2 c = sym (not-sound _ _ (λ p. c .if2 .taken (omega (arith, c .before .pair .ensures, p .whole))))
+returns-2 c = sym (not-sound _ _ (λ p. omega (arith, c .if2 .taken, c .before .pair .ensures, p .whole)))
 
 shared-slice-read-if3 : tie.Need-shared-slice-read-if3
 shared-slice-read-if3 c = search needs
 
 returns-3 : tie.Need-returns-3
-returns-3 c = sym (not-sound _ _ (λ p. c .if3 .taken (p .version)))
+returns-3 c = sym (not-sound _ _ (λ p. omega (arith, c .if3 .taken, p .version)))
 
 shared-slice-read-if4 : tie.Need-shared-slice-read-if4
 shared-slice-read-if4 c = search needs
@@ -62,7 +62,7 @@ returns-5 c = let r = c .before .before .before .before .before .before .before 
     c .sound-body .ensures
     ∙ rw (take-all (length r - 6) (drop 6 r) (simp length-drop (omega arith)))
     (sym
-    (sound-body written r (omega (arith, w .if2 .left, w .before .pair .ensures)) (c .before .before .before .before .before .if3 .left) (omega arith)
+    (sound-body written r (omega (arith, w .if2 .left, w .before .pair .ensures)) (omega (arith, c .before .before .before .before .before .if3 .left)) (omega arith)
     (omega (arith, c .before .before .before .if4 .left, c .before .before .shared-slice-known6 .given 5))))
 
 pub sound-spec : {M : Type 1} → statement M

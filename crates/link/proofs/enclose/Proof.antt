@@ -1,7 +1,6 @@
 -- `link::enclose` lends `escape` the part of `out` between start and end, so that its refusal for want of room is the frame's. Assumes nothing.
-use mathlib.Core.Path.{_≡_, sym, ap, _∙_}
+use mathlib.Core.Path.{sym, ap, _∙_}
 use native.Mathlib.Omega.{arith}
-use Prim.Native.Nat.{ℕ, _+_}
 use lib.ListN.{length}
 use Rattle.escaping.specs.Handed.{handedWritten}
 use Rattle.escaping.proofs.Answers.{escape-accepted, escape-refused}

@@ -1,5 +1,5 @@
 -- `link::encode_numbered` assembles the body in an array of its own, and writes the part that is filled. Assumes nothing.
-use mathlib.Core.Path.{_≡_, sym}
+use mathlib.Core.Path.{sym}
 use native.Mathlib.Omega.{arith}
 use lib.ListN.{replicate, length-take}
 use lib.Seq.{length-take-le}

@@ -23,17 +23,17 @@ epoch-requires-2 c κs = search needs
 abs-slots-requires-2 : tie.Need-abs-slots-requires-2
 abs-slots-requires-2 c κs = search needs
 
-sub-t11 : tie.Need-sub-t11
-sub-t11 c = search needs
+sub-ahead : tie.Need-sub-ahead
+sub-ahead c = search needs
 
 returns-3 : tie.Need-returns-3
 returns-3 c = since-ahead _ _ (c .before .before .before .before .before .before .before .if1 .left) (c .before .before .before .before .before .if2 .left) _ _ (abs-found (c .before .before .before .before .before .before .before .before .before .args .self .0) (search needs) _ _ (c .before .before .before .before .epoch .ensures) (c .before .before .before .abs-slots .ensures)) (abs-found (c .before .before .before .before .before .before .before .before .before .args .past .0) (search needs) _ _ (c .before .before .epoch2 .ensures) (c .before .abs-slots2 .ensures)) (c .if3 .taken)
 
-sub-t12 : tie.Need-sub-t12
-sub-t12 c = omega (arith, abs-lt (c .before .before .epoch2 .result) _ (c .before .before .before .before .before .if2 .left))
+sub-around : tie.Need-sub-around
+sub-around c = omega (arith, abs-lt (c .before .before .epoch2 .result) _ (c .before .before .before .before .before .if2 .left))
 
-add-t13 : tie.Need-add-t13
-add-t13 c = search needs
+add-around : tie.Need-add-around
+add-around c = search needs
 
 returns-4 : tie.Need-returns-4
 returns-4 c = since-around _ _ (c .before .before .before .before .before .before .before .if1 .left) (c .before .before .before .before .before .if2 .left) _ _ (abs-found (c .before .before .before .before .before .before .before .before .before .args .self .0) (search needs) _ _ (c .before .before .before .before .epoch .ensures) (c .before .before .before .abs-slots .ensures)) (abs-found (c .before .before .before .before .before .before .before .before .before .args .past .0) (search needs) _ _ (c .before .before .epoch2 .ensures) (c .before .abs-slots2 .ensures)) (c .if3 .left)
@@ -48,8 +48,8 @@ slots-since-spec =
     abs-slots-requires
     epoch-requires-2
     abs-slots-requires-2
-    sub-t11
+    sub-ahead
     returns-3
-    sub-t12
-    add-t13
+    sub-around
+    add-around
     returns-4)

@@ -2,7 +2,7 @@
 //! first difference and the smallest input found for it.
 //!
 //!     diff [SEED [SCALE]]
-use driver::compare::{leaves, Run};
+use driver::compare::{leaves, link, payloads, Run};
 
 fn main() {
     let mut words = std::env::args().skip(1).map(|w| w.parse().expect("diff [SEED [SCALE]]: numbers"));
@@ -12,6 +12,17 @@ fn main() {
     println!("seed {seed}, scale {scale}");
     leaves::check(&mut run);
     leaves::unescape(&mut run);
+    leaves::escape(&mut run);
+    leaves::address(&mut run);
+    leaves::encode(&mut run);
     leaves::text(&mut run);
+    payloads::packets(&mut run);
+    payloads::status(&mut run);
+    payloads::numbers(&mut run);
+    link::exhaustive(&mut run);
+    link::limits(&mut run);
+    link::random(&mut run);
+    link::made_up(&mut run);
+    link::captures(&mut run);
     println!("{} cases, no difference", run.cases);
 }

@@ -3,6 +3,8 @@ use crate::rng::Rng;
 use crate::{show, shrink};
 
 pub mod leaves;
+pub mod link;
+pub mod payloads;
 
 pub struct Run {
     pub seed: u64,

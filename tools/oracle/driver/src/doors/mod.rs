@@ -1,10 +1,23 @@
 //! The proved side, through the doors of `crates/doors`. A slice passes as its pointer and its length, an array as its pointer.
 
 
+pub mod link;
+
 extern "C" {
     fn johkkesir_crc(buffer: *const u8, len: usize) -> u16;
     fn johkkesir_unescaped_byte(code: u8) -> u64;
+    fn johkkesir_escaped_length(input: *const u8, len: usize) -> u64;
+    fn johkkesir_escape(input: *const u8, len: usize, out: *mut u8, room: usize) -> u64;
+    fn johkkesir_gateway_id(number: u16) -> u64;
+    fn johkkesir_address(number: u16) -> u32;
+    fn johkkesir_address_number(from: bool, id: u16) -> u64;
+    fn johkkesir_encode(from: bool, id: u16, kind: u16, payload: *const u8, len: usize, out: *mut u8, room: usize) -> u64;
     fn johkkesir_is_text(s: *const u8, len: usize) -> bool;
+    fn johkkesir_packet_at(area: *const u8, len: usize, at: usize, found: *mut [u64; 2]) -> u64;
+    fn johkkesir_packets(area: *const u8, len: usize, out: *mut [u64; 2]);
+    fn johkkesir_accepted(status: u16) -> bool;
+    fn johkkesir_needed(status: u16) -> usize;
+    fn johkkesir_interpret_packet_number_lo(lo: u8, old: u16) -> u16;
 }
 
 /// A value, or the number of 01's table by which it is refused.
@@ -28,4 +41,66 @@ pub fn unescaped_byte(code: u8) -> Answer {
 
 pub fn is_text(s: &[u8]) -> bool {
     unsafe { johkkesir_is_text(s.as_ptr(), s.len()) }
+}
+
+pub fn escaped_length(input: &[u8]) -> Answer {
+    answer(unsafe { johkkesir_escaped_length(input.as_ptr(), input.len()) })
+}
+
+pub fn escape(input: &[u8], out: &mut [u8]) -> Answer {
+    answer(unsafe { johkkesir_escape(input.as_ptr(), input.len(), out.as_mut_ptr(), out.len()) })
+}
+
+pub fn gateway_id(number: u16) -> Answer {
+    answer(unsafe { johkkesir_gateway_id(number) })
+}
+
+/// Whether it is From, and the gateway.
+pub fn address(number: u16) -> (bool, u16) {
+    let n = unsafe { johkkesir_address(number) };
+    (n >> 16 == 1, n as u16)
+}
+
+pub fn address_number(from: bool, id: u16) -> Answer {
+    answer(unsafe { johkkesir_address_number(from, id) })
+}
+
+/// What stands in a packet area at a place.
+#[derive(Debug, Copy, Clone, Eq, PartialEq)]
+pub enum Found {
+    Finished,
+    TooShort,
+    Packet(usize, usize),
+}
+
+pub fn packet_at(area: &[u8], at: usize) -> Found {
+    let mut found = [0; 2];
+    match unsafe { johkkesir_packet_at(area.as_ptr(), area.len(), at, &mut found) } {
+        0 => Found::Finished,
+        1 => Found::TooShort,
+        _ => Found::Packet(found[0] as usize, found[1] as usize),
+    }
+}
+
+/// Whole packets, and 1 if the area ends too short.
+pub fn packets(area: &[u8]) -> [u64; 2] {
+    let mut out = [0; 2];
+    unsafe { johkkesir_packets(area.as_ptr(), area.len(), &mut out) };
+    out
+}
+
+pub fn accepted(status: u16) -> bool {
+    unsafe { johkkesir_accepted(status) }
+}
+
+pub fn needed(status: u16) -> usize {
+    unsafe { johkkesir_needed(status) }
+}
+
+pub fn interpret_packet_number_lo(lo: u8, old: u16) -> u16 {
+    unsafe { johkkesir_interpret_packet_number_lo(lo, old) }
+}
+
+pub fn encode(from: bool, id: u16, kind: u16, payload: &[u8], out: &mut [u8]) -> Answer {
+    answer(unsafe { johkkesir_encode(from, id, kind, payload.as_ptr(), payload.len(), out.as_mut_ptr(), out.len()) })
 }

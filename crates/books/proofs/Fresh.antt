@@ -1,0 +1,64 @@
+-- What leads to a fresh receiver and to one whose tallies were reset. Over any check. Assumes nothing.
+use mathlib.Core.Path.{_≡_, refl, sym, _∙_, ap}
+use Prim.Native.Nat.{ℕ, _+_, _≤_, _%_, _^_, _-_}
+use mathlib.Core.Bool.{false}
+use mathlib.Core.List.{List, [], _∷_, _++_, append-nil}
+use native.Mathlib.Omega.{arith}
+use lib.ListN.{length, length-replicate}
+use borrow.Author.Tests.{le-ltb}
+use Rattle.reading.specs.Kinds.{Kind}
+use Rattle.reading.specs.Kinds as k
+use Rattle.reading.specs.Grammar.{Piece, Reading, TheReading}
+use Rattle.reading.specs.Counts.{left, leftFrom, count, countSince, soundBodies, soundFrames}
+use Rattle.reading.proofs.Reader.{pieces, piecesOf}
+use Rattle.reading.proofs.Once.{the-reading}
+use Rattle.link_receive.specs.declared.Receiver.{Receiver}
+use Rattle.link_receive.specs.Tally.{tallyOf, zeros}
+use Rattle.link_receive.specs.Step.{limit, freshOf, resetOf}
+use Rattle.books.specs.Stands.{restAt, Since, After}
+
+tallyOf-zeros : (j : Kind) → tallyOf j zeros ≡ 0
+tallyOf-zeros k.openings = refl
+tallyOf-zeros k.frames = refl
+tallyOf-zeros k.runts = refl
+tallyOf-zeros k.checksums = refl
+tallyOf-zeros k.giants = refl
+tallyOf-zeros k.escaped = refl
+tallyOf-zeros k.broken = refl
+tallyOf-zeros k.noise = refl
+
+module _ (check : List ℕ → ℕ) where
+  -- no bytes lead to a fresh receiver
+  pub fresh-after : After check [] freshOf
+  unfolding pieces leftFrom
+  fresh-after =
+      record {
+        before = piecesOf limit [];
+        pieces = piecesOf limit [];
+        reading-before = the-reading limit [];
+        reading = the-reading limit [];
+        within = omega arith;
+        sized = length-replicate {A = ℕ} limit 0;
+        stands = refl;
+        tallied = λ j. tallyOf-zeros j ∙ omega arith;
+      }
+
+  pub fresh-frames : soundFrames check (fresh-after .pieces) ≡ []
+  unfolding pieces soundBodies fresh-after
+  fresh-frames = refl
+
+  -- a reset leaves the receiver where it stands, with its tallies at 0 from there on
+  pub reset-since : (g h : List ℕ) (r : Receiver) → Since check g h r → Since check (g ++ h) [] (resetOf r .next)
+  unfolding resetOf
+  reset-since g h r a =
+      rw (le-ltb limit (r .len) (a .within))
+      (record {
+        before = a .pieces;
+        pieces = a .pieces;
+        reading-before = a .reading;
+        reading = rw append-nil (a .reading);
+        within = a .within;
+        sized = a .sized;
+        stands = a .stands;
+        tallied = λ j. tallyOf-zeros j ∙ omega arith;
+      })

@@ -1,0 +1,204 @@
+// The link receiver's doors. Its state crosses as ten numbers (the state's own, the length, and the eight tallies in the ledger's order)
+// and the 256 bytes of its body, both lent and left as the call leaves them.
+ghost use mathlib.Core.Path.{_≡_};
+ghost use Rattle.doors.specs.Receivers.{stateAt, stateNumber, receiverAt, placeOf, told, foundOf, pushedAt, fedAt, resetAt, heardOf};
+use link_receive::Answer;
+use link_receive::Receiver;
+use link_receive::State;
+use link_receive::Tallies;
+
+// The state of a number; any number above 5 stands for the last.
+fn state_at(n: u64) -> State
+    ensures { λ r. ⌜ r ≡ stateAt n ⌝ }
+{
+    match n {
+        0 => State::Idle,
+        1 => State::Noise,
+        2 => State::StartOfFrame,
+        3 => State::Frame,
+        4 => State::FrameEscape,
+        5 => State::Giant,
+        _ => State::GiantEscape,
+    }
+}
+
+// The number of a state.
+fn state_number(s: State) -> u64
+    ensures { λ r. ⌜ r ≡ stateNumber s ⌝ }
+{
+    match s {
+        State::Idle => 0,
+        State::Noise => 1,
+        State::StartOfFrame => 2,
+        State::Frame => 3,
+        State::FrameEscape => 4,
+        State::Giant => 5,
+        State::GiantEscape => 6,
+    }
+}
+
+// The receiver that ten numbers and a body say.
+fn receiver_at(place: [u64; 10], body: [u8; 256]) -> Receiver
+    ensures { λ r. ⌜ r ≡ receiverAt place body ⌝ }
+{
+    let state = state_at(place[0]);
+    Receiver {
+        state: state,
+        body: body,
+        len: place[1] as usize,
+        tallies: Tallies {
+            openings: place[2],
+            frames: place[3],
+            runts: place[4],
+            checksums: place[5],
+            giants: place[6],
+            escaped: place[7],
+            broken: place[8],
+            noise: place[9],
+        },
+    }
+}
+
+// The ten numbers of a receiver.
+fn place_of(r: Receiver) -> [u64; 10]
+    ensures { λ p. ⌜ p ≡ placeOf r ⌝ }
+{
+    let state = r.state;
+    let t = r.tallies;
+    let n = state_number(state);
+    [
+        n,
+        r.len as u64,
+        t.openings,
+        t.frames,
+        t.runts,
+        t.checksums,
+        t.giants,
+        t.escaped,
+        t.broken,
+        t.noise,
+    ]
+}
+
+// An answer as one number: 0 for nothing, 1 for a frame, or 12.
+fn told_by(a: Answer) -> u64
+    ensures { λ r. ⌜ r ≡ told a ⌝ }
+{
+    match a {
+        Answer::Nothing => 0,
+        Answer::Frame {
+            address: _,
+            frame_type: _,
+            len: _,
+        } => 1,
+        Answer::Refused => 12 << 32,
+    }
+}
+
+// How many bytes were taken, and of a frame the 16 bits of its address and of its type and the length of its payload.
+fn found_by(taken: u64, a: Answer) -> [u64; 4]
+    ensures { λ r. ⌜ r ≡ foundOf taken a ⌝ }
+{
+    match a {
+        Answer::Nothing => [taken, 0, 0, 0],
+        Answer::Frame {
+            address,
+            frame_type,
+            len,
+        } => [
+            taken,
+            crate::number_of(address),
+            frame_type.0 as u64,
+            len as u64,
+        ],
+        Answer::Refused => [taken, 0, 0, 0],
+    }
+}
+
+// One byte.
+#[no_mangle]
+pub extern "C" fn johkkesir_push_u8(
+    place: &mut [u64; 10],
+    body: &mut [u8; 256],
+    found: &mut [u64; 4],
+    b: u8,
+) -> u64
+    ensures { λ r. ⌜ r ≡ told (pushedAt (now (place .entry)) (now (body .entry)) b .answer) ⌝ }
+    ensures { λ _. ⌜ now (place .exit) ≡ placeOf (pushedAt (now (place .entry)) (now (body .entry)) b .next) ⌝ }
+    ensures { λ _. ⌜ now (body .exit) ≡ pushedAt (now (place .entry)) (now (body .entry)) b .next .body ⌝ }
+    ensures { λ _. ⌜ now (found .exit) ≡ foundOf 1 (pushedAt (now (place .entry)) (now (body .entry)) b .answer) ⌝ }
+{
+    let was = *place;
+    let held = *body;
+    let r = receiver_at(was, held);
+    let f = r.push_u8(b);
+    let next = f.next;
+    let answer = f.answer;
+    let units = next.body;
+    let numbers = place_of(next);
+    let news = found_by(1, answer);
+    *place = numbers;
+    *body = units;
+    *found = news;
+    told_by(answer)
+}
+
+// A slice, up to the first frame handed out or its end.
+#[no_mangle]
+pub extern "C" fn johkkesir_feed(
+    place: &mut [u64; 10],
+    body: &mut [u8; 256],
+    found: &mut [u64; 4],
+    s: &[u8],
+) -> u64
+    ensures { λ r. ⌜ r ≡ told (fedAt (now (place .entry)) (now (body .entry)) (now (s .entry)) .answer) ⌝ }
+    ensures { λ _. ⌜ now (place .exit) ≡ placeOf (fedAt (now (place .entry)) (now (body .entry)) (now (s .entry)) .next) ⌝ }
+    ensures { λ _. ⌜ now (body .exit) ≡ fedAt (now (place .entry)) (now (body .entry)) (now (s .entry)) .next .body ⌝ }
+    ensures { λ _. ⌜ now (found .exit) ≡ foundOf (fedAt (now (place .entry)) (now (body .entry)) (now (s .entry)) .taken) (fedAt (now (place .entry)) (now (body .entry)) (now (s .entry)) .answer) ⌝ }
+{
+    let was = *place;
+    let held = *body;
+    let r = receiver_at(was, held);
+    let f = r.feed(s);
+    let next = f.next;
+    let answer = f.answer;
+    let units = next.body;
+    let numbers = place_of(next);
+    let news = found_by(f.taken as u64, answer);
+    *place = numbers;
+    *body = units;
+    *found = news;
+    told_by(answer)
+}
+
+// The eight tallies to 0.
+#[no_mangle]
+pub extern "C" fn johkkesir_reset_counters(place: &mut [u64; 10], body: &mut [u8; 256]) -> u64
+    ensures { λ r. ⌜ r ≡ told (resetAt (now (place .entry)) (now (body .entry)) .answer) ⌝ }
+    ensures { λ _. ⌜ now (place .exit) ≡ placeOf (resetAt (now (place .entry)) (now (body .entry)) .next) ⌝ }
+    ensures { λ _. ⌜ now (body .exit) ≡ resetAt (now (place .entry)) (now (body .entry)) .next .body ⌝ }
+{
+    let was = *place;
+    let held = *body;
+    let r = receiver_at(was, held);
+    let f = r.reset_counters();
+    let next = f.next;
+    let answer = f.answer;
+    let units = next.body;
+    let numbers = place_of(next);
+    *place = numbers;
+    *body = units;
+    told_by(answer)
+}
+
+// The ten numbers of a fresh receiver after a whole slice.
+#[no_mangle]
+pub extern "C" fn johkkesir_ledger(s: &[u8], place: &mut [u64; 10])
+    ensures { λ _. ⌜ now (place .exit) ≡ placeOf (heardOf (now (s .entry))) ⌝ }
+{
+    let r = Receiver::new();
+    let f = r.extend_from_slice(s);
+    let next = f.next;
+    let numbers = place_of(next);
+    *place = numbers;
+}

@@ -1,0 +1,284 @@
+//! The link receiver: ledger, frames, state and body after a stream, in any cuts.
+use super::Run;
+use crate::oracle::{hear, Heard, Watched};
+use crate::rng::Rng;
+use crate::doors::link as doors;
+use crate::make;
+
+/// The proved receiver over a stream in cuts, each part fed again until it is used up, with the counters reset at `resets`.
+fn ours(stream: &[u8], cuts: &[usize], resets: &[usize]) -> Heard {
+    let mut places: Vec<usize> = cuts.iter().chain(resets).copied().chain([stream.len()]).collect();
+    places.sort_unstable();
+    places.dedup();
+    let mut r = doors::Receiver::new();
+    let mut frames = Vec::new();
+    let mut at = 0;
+    if resets.contains(&0) {
+        r.reset_counters().expect("a fresh state is not refused");
+    }
+    for end in places {
+        while at < end {
+            if r.feed(&stream[at..end]).expect("a reached state is not refused") == 1 {
+                frames.push(r.frame());
+            }
+            at += r.found[0] as usize;
+        }
+        if end > 0 && resets.contains(&end) {
+            r.reset_counters().expect("a reached state is not refused");
+        }
+    }
+    r.heard(frames)
+}
+
+/// The same by single steps.
+fn stepped(stream: &[u8]) -> Heard {
+    let mut r = doors::Receiver::new();
+    let mut frames = Vec::new();
+    for byte in stream {
+        if r.push_u8(*byte).expect("a reached state is not refused") == 1 {
+            frames.push(r.frame());
+        }
+    }
+    r.heard(frames)
+}
+
+/// Cuts and resets of a shrunk stream are those that still lie within it.
+fn within(places: &[usize], stream: &[u8]) -> Vec<usize> {
+    places.iter().copied().filter(|p| *p <= stream.len()).collect()
+}
+
+fn hold(run: &Run, name: &str, stream: &[u8], cuts: &[usize], resets: &[usize]) {
+    run.same(name, stream, &|s| hear(s, &within(resets, s)), &|s| ours(s, &within(cuts, s), &within(resets, s)));
+}
+
+/// All streams over the alphabet of up to `most` bytes, each after a prefix.
+fn every(run: &Run, name: &str, prefix: &[u8], alphabet: &[u8], most: usize) -> u64 {
+    let mut n = 0;
+    for len in 0..=most {
+        let mut at = vec![0; len];
+        'all: loop {
+            let mut stream = prefix.to_vec();
+            stream.extend(at.iter().map(|i| alphabet[*i]));
+            hold(run, name, &stream, &[prefix.len()], &[]);
+            n += 1;
+            let mut k = 0;
+            loop {
+                if k == len {
+                    break 'all;
+                }
+                at[k] += 1;
+                if at[k] < alphabet.len() {
+                    break;
+                }
+                at[k] = 0;
+                k += 1;
+            }
+        }
+    }
+    n
+}
+
+pub fn exhaustive(run: &mut Run) {
+    let name = "receiver: every stream of 0 to 6 bytes of 00 ff 7e 07 08 01 41 24";
+    let alphabet = [0x00, 0xff, 0x7e, 0x07, 0x08, 0x01, 0x41, 0x24];
+    let n = every(run, name, &[], &alphabet, 6);
+    run.done(name, n);
+
+    let name = "receiver: every stream of 0 to 4 of these bytes after each of 16 beginnings (open frames of 0 to 257 units, tails, noise)";
+    let mut n = 0;
+    let opened = |units: usize, more: &[u8]| [&[0x7e, 0x07][..], &vec![0x00; units], more].concat();
+    let beginnings = [
+        vec![0x41],
+        vec![0x41, 0x7e],
+        opened(0, &[]),
+        opened(0, &[0x7e]),
+        opened(4, &[]),
+        opened(5, &[]),
+        opened(6, &[]),
+        opened(6, &[0x7e]),
+        opened(254, &[]),
+        opened(255, &[]),
+        opened(255, &[0x7e]),
+        opened(256, &[]),
+        opened(256, &[0x7e]),
+        opened(256, &[0x41]),
+        opened(256, &[0x41, 0x7e]),
+        opened(256, &[0x7e, 0x01]),
+    ];
+    for beginning in &beginnings {
+        n += every(run, name, beginning, &alphabet, 4);
+    }
+    run.done(name, n);
+
+    let name = "receiver: every byte, and every pair, in each of those states";
+    let all: Vec<u8> = (0..=255).collect();
+    let mut n = 0;
+    for beginning in &beginnings {
+        n += every(run, name, beginning, &all, 1);
+        for b in 0..=255 {
+            hold(run, name, &[&beginning[..], &[0x7e, b]].concat(), &[], &[]);
+            hold(run, name, &[&beginning[..], &[b, 0x41]].concat(), &[], &[]);
+            n += 2;
+        }
+    }
+    run.done(name, n);
+}
+
+pub fn limits(run: &mut Run) {
+    let name = "receiver: bodies of every number of units to 270, the last raw and escaped, closed, broken, overlong";
+    let mut rng = run.part("limits");
+    let mut n = 0;
+    let afters: [&[u8]; 8] =
+        [&[0x7e, 0x08], &[0x7e, 0x07], &[0x7e, 0x09], &[0x08], &[0x07], &[0x7e], &[], &[0x7e, 0x08, 0x7e, 0x07, 0x41, 0x7e, 0x08]];
+    for units in 0..=270 {
+        let times = if (250..=260).contains(&units) || units < 10 { 12 } else { 2 };
+        for _ in 0..times * run.scale {
+            for after in afters {
+                for escaped in [false, true] {
+                    let stream = make::units(&mut rng, units, escaped, after);
+                    let cuts = make::cuts(&mut rng, stream.len());
+                    hold(run, name, &stream, &cuts, &[]);
+                    n += 1;
+                }
+            }
+            if (6..=256).contains(&units) {
+                let stream = make::sound_of(&mut rng, units);
+                hold(run, name, &stream, &[], &[]);
+                n += 1;
+            }
+        }
+    }
+    run.done(name, n);
+}
+
+pub fn random(run: &mut Run) {
+    let name = "receiver: random streams (noise, framing bytes, frames in a row, damaged copies) in random cuts";
+    let mut rng = run.part("random");
+    let count = 150_000 * run.scale;
+    for _ in 0..count {
+        let stream = make::stream(&mut rng);
+        let cuts = make::cuts(&mut rng, stream.len());
+        hold(run, name, &stream, &cuts, &[]);
+    }
+    run.done(name, count as u64);
+
+    let name = "receiver: the same with counters reset at random places";
+    let mut rng = run.part("resets");
+    let count = 15_000 * run.scale;
+    for _ in 0..count {
+        let stream = make::stream(&mut rng);
+        let cuts = make::cuts(&mut rng, stream.len());
+        let resets: Vec<usize> = (0..rng.within(1, 3)).map(|_| rng.below(stream.len() + 1)).collect();
+        hold(run, name, &stream, &cuts, &resets);
+    }
+    run.done(name, count as u64);
+
+    let name = "receiver: the same by single steps, and as the ledger of one slice";
+    let mut rng = run.part("steps");
+    let count = 15_000 * run.scale;
+    for _ in 0..count {
+        let stream = make::stream(&mut rng);
+        run.same(name, &stream, &|s| hear(s, &[]), &stepped);
+        run.same(name, &stream, &|s| placed(&hear(s, &[])), &|s| doors::ledger(s).to_vec());
+    }
+    run.done(name, 2 * count as u64);
+}
+
+/// State, length and the eight tallies.
+fn placed(heard: &Heard) -> Vec<u64> {
+    let mut place = vec![u64::from(heard.state), heard.body.len() as u64];
+    place.extend(&heard.nine[..8]);
+    place
+}
+
+pub fn captures(run: &mut Run) {
+    let name = "receiver: captures of 256 KiB that look like a line, whole and damaged, in random cuts";
+    let mut rng = run.part("captures");
+    let count = 6 * run.scale as u64;
+    for k in 0..count {
+        let mut stream = make::capture(run.seed.wrapping_mul(1000) + k, 256 * 1024);
+        if k % 2 == 1 {
+            for _ in 0..200 {
+                let at = rng.below(stream.len());
+                stream[at] = rng.byte();
+            }
+        }
+        let cuts = make::cuts(&mut rng, stream.len());
+        let (rust, ours) = (hear(&stream, &[]), ours(&stream, &cuts, &[]));
+        if rust != ours {
+            hold(run, name, &stream, &cuts, &[]);
+        }
+    }
+    run.done(name, count);
+}
+
+/// Bytes that lead a fresh receiver to each state outside an open frame.
+const OUTSIDE: [(u64, &[u8]); 3] = [(0, &[]), (1, &[0x41]), (2, &[0x7e])];
+
+pub fn made_up(run: &mut Run) {
+    let name = "receiver: made-up states (a stale body outside a frame, tallies about to wrap)";
+    let mut rng = run.part("made up");
+    let count = 15_000 * run.scale;
+    for _ in 0..count {
+        let (state, prefix) = rng.pick(&OUTSIDE);
+        let stream = make::stream(&mut rng);
+        let mut rust = Watched::new();
+        for byte in prefix {
+            rust.push(*byte);
+        }
+        rust.reset();
+        for byte in &stream {
+            rust.push(*byte);
+        }
+        let mut r = made(&mut rng, state);
+        let before = r.place;
+        let mut frames = Vec::new();
+        let mut at = 0;
+        while at < stream.len() {
+            if r.feed(&stream[at..]).expect("a length within the limit") == 1 {
+                frames.push(r.frame());
+            }
+            at += r.found[0] as usize;
+        }
+        let heard = rust.heard();
+        let moved: Vec<u64> = (2..10).map(|i| r.place[i].wrapping_sub(before[i])).collect();
+        if heard.frames != frames || u64::from(heard.state) != r.place[0] || moved != heard.nine[..8] {
+            run.differ(name, &format!("from {before:?} on {}: the Rust {heard:?}, ours {:?} {frames:?}", crate::show::short(&stream), r.place));
+        }
+        if (heard.state == 3 || heard.state == 4) && heard.body != r.units() {
+            run.differ(name, &format!("from {before:?} on {}: another body", crate::show::short(&stream)));
+        }
+    }
+    run.done(name, count as u64);
+
+    let name = "receiver: a length over 256 is refused by 12 and changes nothing (step, feed, reset)";
+    let mut n = 0;
+    for state in 0..7 {
+        for len in [257, 258, 300, 65_536, u64::MAX] {
+            for byte in 0..=255 {
+                let mut r = made(&mut rng, state);
+                r.place[1] = len;
+                let before = r.clone();
+                let answers = [r.push_u8(byte), r.feed(&[byte]), r.feed(&[]), r.reset_counters()];
+                if answers != [Err(12); 4] || (r.place, r.body) != (before.place, before.body) {
+                    run.differ(name, &format!("from {:?} at byte {byte:02x}: {answers:?}", before.place));
+                }
+                n += 4;
+            }
+        }
+    }
+    run.done(name, n);
+}
+
+fn made(rng: &mut Rng, state: u64) -> doors::Receiver {
+    let mut r = doors::Receiver::new();
+    for b in &mut r.body {
+        *b = rng.byte();
+    }
+    r.place[0] = state;
+    r.place[1] = rng.pick(&[0, 1, 5, 6, 255, 256]);
+    for t in &mut r.place[2..] {
+        *t = rng.pick(&[0, 1, u64::MAX, u64::MAX - 1, u64::MAX - 2]);
+    }
+    r
+}
