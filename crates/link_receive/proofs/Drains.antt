@@ -262,3 +262,22 @@ module _ (check : List ℕ → ℕ) where
         some = j .some (omega arith);
         on = record { placed = omega (arith, j .fits); within = j .within; same = sym (rw (drop-drop (f .taken) i s) at (j .drained)) ∙ e .same };
       }
+
+  -- the same, of a feeding that counts from the slice's start
+  pub record Ran (s : List ℕ) (x r : Receiver) (i : ℕ) (f : Fed) : Type 0 where
+    pub some : i < f .taken
+    pub sized : length (f .next .body) ≡ length (r .body)
+    pub on : Extending s x (f .next) (f .taken)
+
+  pub extending-on :
+      (s : List ℕ) (x r : Receiver) (i : ℕ) (f : Fed) → i < length s → Extending s x r i → f ≡ feedFrom check r (drop i s) i → Ran s x r i f
+  extending-on s x r i f h e g =
+      let w : length (drop i s) ≡ length s - i = length-drop i s in
+      let j : Then r (drop i s) i f = rw g (then-feed (drop i s) r i (e .within)) in
+      let k : f .taken ≡ i + j .more = j .taken in
+      let d : drainOf check r (drop i s) ≡ drainOf check (f .next) (drop (i + j .more) s) = rw (drop-drop (j .more) i s) at (j .drained) in
+      record {
+        some = omega (arith, j .some (omega arith));
+        sized = j .sized;
+        on = record { placed = omega (arith, j .fits); within = j .within; same = rw k (sym d ∙ e .same) };
+      }

@@ -3,3 +3,4 @@ pub mod Steps
 pub mod Feeds
 pub mod Frames
 pub mod Drains
+pub mod Skips

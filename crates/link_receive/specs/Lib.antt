@@ -3,3 +3,4 @@ pub mod Frames
 pub mod Step
 pub mod Feed
 pub mod Drain
+pub mod Advance

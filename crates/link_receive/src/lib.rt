@@ -1,17 +1,19 @@
 // The gateway link layer's receiver (link/receive.rs): bytes to frames. The receiver is a state handed in and handed back by each step.
 ghost use mathlib.Core.Path.{_≡_};
 ghost use Prim.Native.Nat.{_<_, _≤_};
-ghost use lib.ListN.{take};
+ghost use lib.ListN.{length, take, drop};
 ghost use Rattle.laws.specs.Bytes.{of16};
 ghost use Rattle.crc.specs.Crc.{crcOf};
 ghost use Rattle.link_receive.specs.Tally.{kindOf, raise};
 ghost use Rattle.link_receive.specs.Frames.{payloadOf};
 ghost use Rattle.link_receive.specs.Step.{limit, openOf, turnOf, toOf, pushedOf, countedOf, parsedOf, closedOf, stepOf, freshOf, resetOf};
-ghost use Rattle.link_receive.specs.Feed.{feedOf};
+ghost use Rattle.link_receive.specs.Feed.{feedFrom, feedOf};
+ghost use Rattle.link_receive.specs.Advance.{madeOf, fedOf, Ahead};
 ghost use Rattle.link_receive.specs.Drain.{extendOf};
 use address::Address;
 use escaping::Unescaped;
 use link::Type;
+use runs::Sort;
 
 // Where the receiver stands in the stream.
 pub enum State {
@@ -272,6 +274,171 @@ pub struct Fed {
     pub taken: usize,
 }
 
+// How many units are held, and how many bytes of a slice were taken.
+struct Place {
+    len: usize,
+    at: usize,
+}
+
+// What a feeding stopped with: the parts of the receiver beside its body, the answer, and how many bytes of the slice were taken.
+struct Advanced {
+    state: State,
+    len: usize,
+    tallies: Tallies,
+    answer: Answer,
+    at: usize,
+}
+
+// The units of an open frame, raw and escaped, as far as there is room and the slice has them whole.
+fn units(len0: usize, body: &mut [u8], s: &[u8], i0: usize) -> Place
+    requires { ⌜ (len0 ≤ limit) × (length (now body) ≡ limit) × (i0 ≤ length (now s)) ⌝ }
+    ensures { λ r. ⌜ Ahead crcOf State.Frame (now (s .entry)) (now (body .entry)) len0 i0 (now (body .exit)) r ⌝ }
+{
+    let mut len = len0;
+    let mut i = i0;
+    while i < s.len() {
+        let k = runs::copy_run(Sort::Raw, body, len, s, i);
+        len += k;
+        i += k;
+        if s.len() - i < 2 {
+            break;
+        }
+        if s[i] != 0x7e {
+            break;
+        }
+        if Receiver::MAX_FRAME_SIZE <= len {
+            break;
+        }
+        match escaping::unescaped_byte(s[i + 1]) {
+            Unescaped::Byte(d) => {
+                body[len] = d;
+                len += 1;
+                i += 2;
+            }
+            Unescaped::Invalid => {
+                break;
+            }
+        }
+    }
+    Place { len: len, at: i }
+}
+
+// Many bytes at once, where all of them leave the state as it is: idle bytes, noise, what a tail skips, and units of an open frame.
+fn ahead(state: State, len: usize, body: &mut [u8], s: &[u8], i: usize) -> Place
+    requires { ⌜ (len ≤ limit) × (length (now body) ≡ limit) × (i ≤ length (now s)) ⌝ }
+    ensures { λ r. ⌜ Ahead crcOf state (now (s .entry)) (now (body .entry)) len i (now (body .exit)) r ⌝ }
+{
+    match state {
+        State::Idle => {
+            let k = runs::run(Sort::Idle, s, i);
+            Place {
+                len: len,
+                at: i + k,
+            }
+        }
+        State::Noise => {
+            let k = runs::run(Sort::Noise, s, i);
+            Place {
+                len: len,
+                at: i + k,
+            }
+        }
+        State::Frame => units(len, body, s, i),
+        State::Giant => {
+            let k = runs::run(Sort::Raw, s, i);
+            Place {
+                len: len,
+                at: i + k,
+            }
+        }
+        _ => Place { len: len, at: i },
+    }
+}
+
+// Feeds a slice from a place on, up to the first frame handed out or its end. The parts of the receiver stand in locals and its body
+// is lent, so that no byte costs a copy of the whole.
+fn advance(
+    state0: State,
+    len0: usize,
+    tallies0: Tallies,
+    body: &mut [u8],
+    s: &[u8],
+    i0: usize,
+) -> Advanced
+    requires { ⌜ (len0 ≤ limit) × (length (now body) ≡ limit) × (i0 ≤ length (now s)) ⌝ }
+    ensures { λ r. ⌜ fedOf r (now (body .exit)) ≡ feedFrom crcOf (madeOf state0 (now (body .entry)) len0 tallies0) (drop i0 (now (s .entry))) i0 ⌝ }
+{
+    let mut state = state0;
+    let mut len = len0;
+    let mut tallies = tallies0;
+    let mut i = i0;
+    while i < s.len() {
+        let p = ahead(state, len, body, s, i);
+        len = p.len;
+        i = p.at;
+        if i == s.len() {
+            break;
+        }
+        let m = turn(state, len, s[i]);
+        i += 1;
+        match m {
+            Move::To(next) => {
+                state = next;
+            }
+            Move::Push(d) => {
+                body[len] = d;
+                len += 1;
+                state = State::Frame;
+            }
+            Move::Count(tally, next) => {
+                tallies = tallies.raised(tally);
+                len = 0;
+                state = next;
+            }
+            Move::Break => {
+                tallies = tallies.raised(Tally::Broken);
+                tallies = tallies.raised(Tally::Noise);
+                len = 0;
+                state = State::Noise;
+            }
+            Move::Close => {
+                let n = len;
+                len = 0;
+                state = State::Idle;
+                match parse_frame(&body[..n]) {
+                    Parsed::Sound {
+                        address,
+                        frame_type,
+                    } => {
+                        tallies = tallies.raised(Tally::Frames);
+                        return Advanced {
+                            state: state,
+                            len: len,
+                            tallies: tallies,
+                            answer: Answer::Frame {
+                                address: address,
+                                frame_type: frame_type,
+                                len: n - 6,
+                            },
+                            at: i,
+                        };
+                    }
+                    Parsed::Dropped(tally) => {
+                        tallies = tallies.raised(tally);
+                    }
+                }
+            }
+        }
+    }
+    Advanced {
+        state: state,
+        len: len,
+        tallies: tallies,
+        answer: Answer::Nothing,
+        at: i,
+    }
+}
+
 impl Receiver {
     pub const MAX_FRAME_SIZE: usize = 256;
 
@@ -419,11 +586,11 @@ impl Receiver {
     }
 
     // A slice, up to the first frame handed out or its end. Refused by 12, with nothing changed and nothing taken, if the
-    // length is over the limit. The parts of the receiver stand in locals, so that no byte costs a copy of the whole.
+    // length is over the limit.
     pub fn feed(self, s: &[u8]) -> Fed
         ensures { λ r. ⌜ r ≡ feedOf crcOf self (now (s .entry)) ⌝ }
     {
-        let mut len = self.len;
+        let len = self.len;
         if Receiver::MAX_FRAME_SIZE < len {
             return Fed {
                 next: self,
@@ -431,74 +598,22 @@ impl Receiver {
                 taken: 0,
             };
         }
-        let mut state = self.state;
+        let state = self.state;
+        let tallies = self.tallies;
         let mut body = self.body;
-        let mut tallies = self.tallies;
-        let mut i = 0;
-        while i < s.len() {
-            let m = turn(state, len, s[i]);
-            i += 1;
-            match m {
-                Move::To(next) => {
-                    state = next;
-                }
-                Move::Push(d) => {
-                    body[len] = d;
-                    len += 1;
-                    state = State::Frame;
-                }
-                Move::Count(tally, next) => {
-                    tallies = tallies.raised(tally);
-                    len = 0;
-                    state = next;
-                }
-                Move::Break => {
-                    tallies = tallies.raised(Tally::Broken);
-                    tallies = tallies.raised(Tally::Noise);
-                    len = 0;
-                    state = State::Noise;
-                }
-                Move::Close => {
-                    let n = len;
-                    len = 0;
-                    state = State::Idle;
-                    match parse_frame(&body[..n]) {
-                        Parsed::Sound {
-                            address,
-                            frame_type,
-                        } => {
-                            tallies = tallies.raised(Tally::Frames);
-                            return Fed {
-                                next: Receiver {
-                                    state: state,
-                                    body: body,
-                                    len: len,
-                                    tallies: tallies,
-                                },
-                                answer: Answer::Frame {
-                                    address: address,
-                                    frame_type: frame_type,
-                                    len: n - 6,
-                                },
-                                taken: i,
-                            };
-                        }
-                        Parsed::Dropped(tally) => {
-                            tallies = tallies.raised(tally);
-                        }
-                    }
-                }
-            }
-        }
+        let a = advance(state, len, tallies, &mut body, s, 0);
+        let state = a.state;
+        let tallies = a.tallies;
+        let answer = a.answer;
         Fed {
             next: Receiver {
                 state: state,
                 body: body,
-                len: len,
+                len: a.len,
                 tallies: tallies,
             },
-            answer: Answer::Nothing,
-            taken: i,
+            answer: answer,
+            taken: a.at,
         }
     }
 
@@ -506,23 +621,33 @@ impl Receiver {
     pub fn extend_from_slice(self, s: &[u8]) -> Stepped
         ensures { λ r. ⌜ r ≡ extendOf crcOf self (now (s .entry)) ⌝ }
     {
-        let len = self.len;
+        let mut len = self.len;
         if Receiver::MAX_FRAME_SIZE < len {
             return Stepped {
                 next: self,
                 answer: Answer::Refused,
             };
         }
-        let mut r = self;
+        let mut state = self.state;
+        let mut tallies = self.tallies;
+        let mut body = self.body;
         let mut i = 0;
         while i < s.len() {
-            let f = r.feed(&s[i..]);
-            let next = f.next;
-            r = next;
-            i += f.taken;
+            let a = advance(state, len, tallies, &mut body, s, i);
+            let next = a.state;
+            let raised = a.tallies;
+            state = next;
+            len = a.len;
+            tallies = raised;
+            i = a.at;
         }
         Stepped {
-            next: r,
+            next: Receiver {
+                state: state,
+                body: body,
+                len: len,
+                tallies: tallies,
+            },
             answer: Answer::Nothing,
         }
     }

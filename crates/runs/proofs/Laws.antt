@@ -1,9 +1,9 @@
 -- Laws of runs. Assumes nothing.
 use mathlib.Core.Path.{_≡_, refl, sym, ap, ap₂, _∙_, subst}
-use mathlib.Core.Bool.{Bool, true, false, cond}
+use mathlib.Core.Bool.{Bool, true, false, cond, not, _&&_, _||_}
 use mathlib.Core.List.{List, [], _∷_}
-use Prim.Native.Nat.{ℕ, zero, suc, _+_, _-_, _≤_, _<_, suc-le-suc}
-use native.Mathlib.Nat.{not-suc-le-zero, le-of-suc-le-suc, zero-lt-suc, add-zero, add-suc, add-assoc, lt-of-lt-of-le, sub-self}
+use Prim.Native.Nat.{ℕ, zero, suc, _+_, _-_, _≤_, _<_, zero-le, suc-le-suc}
+use native.Mathlib.Nat.{not-suc-le-zero, le-refl, le-of-suc-le-suc, zero-lt-suc, add-zero, add-suc, add-assoc, lt-of-lt-of-le, sub-self}
 use native.Mathlib.Numerals.{add-one}
 use native.Mathlib.Omega.{arith}
 use borrow.Author.Tests.{ltb-true, ltb-false}
@@ -106,3 +106,63 @@ laid-whole d e l s i k m h q =
   where
     whole : (k m : ℕ) → k ≤ m → k + (m - k) ≡ m
     whole k m h = omega arith
+
+-- the tests of a sort, one by one
+pub noise-is : (x y z : Bool) → not x ≡ true → not y ≡ true → not z ≡ true → (not x && not (y || z)) ≡ true
+noise-is true y z p q r = p
+noise-is false true z p q r = q
+noise-is false false true p q r = r
+noise-is false false false p q r = refl
+
+pub plain-is : (x y : Bool) → not x ≡ true → not y ≡ true → (not x && not y) ≡ true
+plain-is true y p q = p
+plain-is false y p q = q
+
+pub never : {A : Type 0} → false ≡ true → A
+never t = absurd (let z : _≡_ {A = ℕ} 0 1 = cc in omega arith)
+
+-- no bytes
+pub all-none : (p : ℕ → Bool) (s : List ℕ) (i : ℕ) → All p s i 0
+all-none p s i k h = absurd (not-suc-le-zero h)
+
+-- what a run's length says, for whoever is handed one
+counted-le : (t : Bool) (m n : ℕ) → m ≤ n → cond t (suc m) 0 ≤ suc n
+counted-le true m n h = suc-le-suc h
+counted-le false m n h = zero-le
+
+lead-le : (p : ℕ → Bool) (xs : List ℕ) → lead p xs ≤ length xs
+unfolding lead
+lead-le p [] = le-refl 0
+lead-le p (x ∷ xs) = counted-le (p x) (lead p xs) (length xs) (lead-le p xs)
+
+counted-all : (p : ℕ → Bool) (x : ℕ) (xs : List ℕ) (n : ℕ) → ((k : ℕ) → k < n → p (getD xs k 0) ≡ true) → (t : Bool) → p x ≡ t → (k : ℕ) → k < cond t (suc n) 0 → p (getD (x ∷ xs) k 0) ≡ true
+counted-all p x xs n f true e zero h = e
+counted-all p x xs n f true e (suc k) h = f k (le-of-suc-le-suc h)
+counted-all p x xs n f false e k h = absurd (not-suc-le-zero h)
+
+lead-all : (p : ℕ → Bool) (xs : List ℕ) (k : ℕ) → k < lead p xs → p (getD xs k 0) ≡ true
+unfolding lead
+lead-all p [] k h = absurd (not-suc-le-zero h)
+lead-all p (x ∷ xs) k h = counted-all p x xs (lead p xs) (λ j u. lead-all p xs j u) (p x) refl k h
+
+module _ (p : ℕ → Bool) (s : List ℕ) (i r : ℕ) (h : i ≤ length s) (e : r ≡ lead p (drop i s)) where
+  pub run-placed : i + r ≤ length s
+  run-placed = omega (arith, lead-le p (drop i s), length-drop i s)
+
+  pub run-all : All p s i r
+  run-all k u = rw getD-drop at (lead-all p (drop i s) k (subst (λ (m : ℕ). k < m) e u))
+
+module _ (p : ℕ → Bool) (s : List ℕ) (i n r : ℕ) (h : i ≤ length s) (e : r ≡ lead p (take n (drop i s))) where
+  copied : r ≤ length (take n (drop i s))
+  copied = rw e (lead-le p (take n (drop i s)))
+
+  pub copy-room : r ≤ n
+  copy-room = omega (arith, simp (length-take, length-drop) at copied)
+
+  pub copy-placed : i + r ≤ length s
+  copy-placed = omega (arith, simp (length-take, length-drop) at copied)
+
+  pub copy-all : All p s i r
+  copy-all k u =
+      let v : k < n = lt-of-lt-of-le u copy-room in
+      rw (getD-take, getD-drop) at (lead-all p (take n (drop i s)) k (subst (λ (m : ℕ). k < m) e u))

@@ -6,7 +6,7 @@ ghost use Prim.Native.Nat.{ℕ, _+_, _-_, _≤_, _<_};
 ghost use lib.ListN.{length, take, drop};
 ghost use lib.Seq.{paste};
 ghost use lib.Dec.{eqb};
-ghost use Rattle.runs.specs.Runs.{raw, idle, fenced, isOf, lead, All, laid};
+ghost use Rattle.runs.specs.Runs.{idle, fenced, isOf, lead, All, laid, Copied};
 
 // A sort of bytes: any but 7e; 00 and ff; any but 00, ff and 7e; those that stand for themselves on the wire.
 pub enum Sort {
@@ -107,28 +107,88 @@ fn open8(s: &[u8], i: usize) -> bool
     e == 0
 }
 
-// Whether the eight bytes at i are of a sort. It may say no where they are.
-fn all8(sort: Sort, s: &[u8], i: usize) -> bool
+// Whether none of the eight bytes at i is 00, ff or 7e.
+fn noise8(s: &[u8], i: usize) -> bool
     requires { ⌜ i + 8 ≤ length (now s) ⌝ }
-    ensures { λ r. ⌜ (r ≡ true → All (isOf sort) (now (s .entry)) i 8) ⌝ }
+    ensures { λ r. ⌜ (r ≡ true → All (isOf Sort.Noise) (now (s .entry)) i 8) ⌝ }
+{
+    if none8(s, i, 0x7e) {
+        if none8(s, i, 0x00) {
+            return none8(s, i, 0xff);
+        }
+    }
+    false
+}
+
+// Whether the eight bytes at i stand for themselves on the wire.
+fn plain8(s: &[u8], i: usize) -> bool
+    requires { ⌜ i + 8 ≤ length (now s) ⌝ }
+    ensures { λ r. ⌜ (r ≡ true → All (isOf Sort.Plain) (now (s .entry)) i 8) ⌝ }
+{
+    if none8(s, i, 0x7e) {
+        return open8(s, i);
+    }
+    false
+}
+
+// How many bytes at i pass by eights, none of them 7e.
+fn raw_eights(s: &[u8], i: usize) -> usize
+    requires { ⌜ i ≤ length (now s) ⌝ }
+    ensures { λ r. ⌜ (i + r ≤ length (now (s .entry))) × All (isOf Sort.Raw) (now (s .entry)) i r ⌝ }
+{
+    let left = s.len() - i;
+    let mut m = 0;
+    while m + 8 <= left {
+        if !none8(s, i + m, 0x7e) {
+            break;
+        }
+        m += 8;
+    }
+    m
+}
+
+// The same, each of them 00 or ff.
+fn idle_eights(s: &[u8], i: usize) -> usize
+    requires { ⌜ i ≤ length (now s) ⌝ }
+    ensures { λ r. ⌜ (i + r ≤ length (now (s .entry))) × All (isOf Sort.Idle) (now (s .entry)) i r ⌝ }
+{
+    let left = s.len() - i;
+    let mut m = 0;
+    while m + 8 <= left {
+        if !idle8(s, i + m) {
+            break;
+        }
+        m += 8;
+    }
+    m
+}
+
+// The same, none of them 00, ff or 7e.
+fn noise_eights(s: &[u8], i: usize) -> usize
+    requires { ⌜ i ≤ length (now s) ⌝ }
+    ensures { λ r. ⌜ (i + r ≤ length (now (s .entry))) × All (isOf Sort.Noise) (now (s .entry)) i r ⌝ }
+{
+    let left = s.len() - i;
+    let mut m = 0;
+    while m + 8 <= left {
+        if !noise8(s, i + m) {
+            break;
+        }
+        m += 8;
+    }
+    m
+}
+
+// How many bytes of a sort pass by eights at i; of plain ones none, which are copied and not counted.
+fn eights(sort: Sort, s: &[u8], i: usize) -> usize
+    requires { ⌜ i ≤ length (now s) ⌝ }
+    ensures { λ r. ⌜ (i + r ≤ length (now (s .entry))) × All (isOf sort) (now (s .entry)) i r ⌝ }
 {
     match sort {
-        Sort::Raw => none8(s, i, 0x7e),
-        Sort::Idle => idle8(s, i),
-        Sort::Noise => {
-            if none8(s, i, 0x7e) {
-                if none8(s, i, 0x00) {
-                    return none8(s, i, 0xff);
-                }
-            }
-            false
-        }
-        Sort::Plain => {
-            if none8(s, i, 0x7e) {
-                return open8(s, i);
-            }
-            false
-        }
+        Sort::Raw => raw_eights(s, i),
+        Sort::Idle => idle_eights(s, i),
+        Sort::Noise => noise_eights(s, i),
+        Sort::Plain => 0,
     }
 }
 
@@ -141,13 +201,7 @@ pub fn run(sort: Sort, s: &[u8], i: usize) -> usize
         return 0;
     }
     let left = n - i;
-    let mut m = 0;
-    while m + 8 <= left {
-        if !all8(sort, s, i + m) {
-            break;
-        }
-        m += 8;
-    }
+    let mut m = eights(sort, s, i);
     while m < left {
         if !is(sort, s[i + m]) {
             break;
@@ -169,6 +223,50 @@ fn copy8(d: &mut [u8], l: usize, s: &[u8], i: usize)
     }
 }
 
+// Copies raw bytes by eights, at most `most`.
+fn copy_raw_eights(d: &mut [u8], l: usize, s: &[u8], i: usize, most: usize) -> usize
+    requires { ⌜ (i + most ≤ length (now s)) × (l + most ≤ length (now d)) ⌝ }
+    ensures { λ r. ⌜ Copied (isOf Sort.Raw) (now (d .entry)) l (now (s .entry)) i most r (now (d .exit)) ⌝ }
+{
+    let mut m = 0;
+    while m + 8 <= most {
+        if !none8(s, i + m, 0x7e) {
+            break;
+        }
+        copy8(d, l + m, s, i + m);
+        m += 8;
+    }
+    m
+}
+
+// Copies plain bytes by eights, at most `most`.
+fn copy_plain_eights(d: &mut [u8], l: usize, s: &[u8], i: usize, most: usize) -> usize
+    requires { ⌜ (i + most ≤ length (now s)) × (l + most ≤ length (now d)) ⌝ }
+    ensures { λ r. ⌜ Copied (isOf Sort.Plain) (now (d .entry)) l (now (s .entry)) i most r (now (d .exit)) ⌝ }
+{
+    let mut m = 0;
+    while m + 8 <= most {
+        if !plain8(s, i + m) {
+            break;
+        }
+        copy8(d, l + m, s, i + m);
+        m += 8;
+    }
+    m
+}
+
+// Copies bytes of a sort by eights, at most `most`; idle bytes and noise, which are skipped and not copied, not at all.
+fn copy_eights(sort: Sort, d: &mut [u8], l: usize, s: &[u8], i: usize, most: usize) -> usize
+    requires { ⌜ (i + most ≤ length (now s)) × (l + most ≤ length (now d)) ⌝ }
+    ensures { λ r. ⌜ Copied (isOf sort) (now (d .entry)) l (now (s .entry)) i most r (now (d .exit)) ⌝ }
+{
+    match sort {
+        Sort::Raw => copy_raw_eights(d, l, s, i, most),
+        Sort::Plain => copy_plain_eights(d, l, s, i, most),
+        _ => 0,
+    }
+}
+
 // Copies the bytes of a sort that stand at i, as many as there is room for, to d at l.
 pub fn copy_run(sort: Sort, d: &mut [u8], l: usize, s: &[u8], i: usize) -> usize
     ensures count { λ r. ⌜ r ≡ lead (isOf sort) (take (length (now (d .entry)) - l) (drop i (now (s .entry)))) ⌝ }
@@ -183,14 +281,7 @@ pub fn copy_run(sort: Sort, d: &mut [u8], l: usize, s: &[u8], i: usize) -> usize
     let left = s.len() - i;
     let room = d.len() - l;
     let most = if left < room { left } else { room };
-    let mut m = 0;
-    while m + 8 <= most {
-        if !all8(sort, s, i + m) {
-            break;
-        }
-        copy8(d, l + m, s, i + m);
-        m += 8;
-    }
+    let mut m = copy_eights(sort, d, l, s, i, most);
     while m < most {
         let b = s[i + m];
         if !is(sort, b) {

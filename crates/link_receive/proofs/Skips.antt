@@ -1,0 +1,174 @@
+-- Many bytes at once: where each of them leaves the state as it is, feeding on from behind them is feeding from here; over any check.
+-- Assumes nothing.
+use mathlib.Core.Path.{_≡_, refl, sym, ap, ap₂, _∙_, subst}
+use mathlib.Core.Bool.{Bool, true, false, cond, not, _&&_, _||_}
+use mathlib.Core.List.{List}
+use Prim.Native.Nat.{ℕ, zero, suc, _+_, _-_, _≤_, _<_}
+use native.Mathlib.Nat.{add-zero, add-suc, le-of-lt}
+use native.Mathlib.Numerals.{add-one}
+use native.Mathlib.Omega.{arith}
+use lib.Dec.{eqb, ltb}
+use lib.ListN.{length, getD, set, take, drop, length-set}
+use lib.Seq.{paste}
+use borrow.Author.Tests.{eqb-true, not-true, lt-ltb}
+use Rattle.runs.specs.Runs.{isOf, lead, All, laid}
+use Rattle.runs.proofs.Laws.{copy-room, copy-placed, copy-all, length-laid, laid-paste}
+use Rattle.runs.specs.declared.Sort.the-variants as sort
+use Rattle.link_receive.specs.declared.State.{State}
+use Rattle.link_receive.specs.declared.State.the-variants.{Idle, Noise, StartOfFrame, Frame, FrameEscape, Giant}
+use Rattle.link_receive.specs.declared.Tally.the-variants as tally
+use Rattle.link_receive.specs.declared.Tallies.{Tallies}
+use Rattle.link_receive.specs.declared.Move.{Move}
+use Rattle.link_receive.specs.declared.Move.the-variants.{To, Push, Count}
+use Rattle.link_receive.specs.Step.{limit, outsideOf, turnOf}
+use Rattle.link_receive.specs.Feed.{feedFrom}
+use Rattle.link_receive.specs.declared.Place.{Place}
+use Rattle.link_receive.specs.declared.Fed.{Fed}
+use Rattle.link_receive.specs.Advance.{madeOf, Ahead}
+use Rattle.link_receive.proofs.Steps.{stepOf-within}
+use Rattle.link_receive.proofs.Feeds.{Feeding, feedFrom-more}
+
+never : {A : Type 0} → false ≡ true → A
+never e = absurd (let z : _≡_ {A = ℕ} 0 1 = cc in omega arith)
+
+-- idle bytes leave Idle as it is
+pub turnOf-idle : (len b : ℕ) → isOf sort.Idle b ≡ true → turnOf Idle len b ≡ To Idle
+unfolding isOf turnOf
+turnOf-idle len b e = go (eqb b 0x00) refl e
+  where
+    go : (x : Bool) → eqb b 0x00 ≡ x → (x || eqb b 0xff) ≡ true → outsideOf (Count tally.Noise Noise) b ≡ To Idle
+    go true f g = subst (λ (n : ℕ). outsideOf (Count tally.Noise Noise) n ≡ To Idle) (sym (eqb-true b 0x00 f)) refl
+    go false f g = subst (λ (n : ℕ). outsideOf (Count tally.Noise Noise) n ≡ To Idle) (sym (eqb-true b 0xff g)) refl
+
+-- noise leaves Noise
+pub turnOf-noise : (len b : ℕ) → isOf sort.Noise b ≡ true → turnOf Noise len b ≡ To Noise
+unfolding isOf turnOf
+turnOf-noise len b e = go (eqb b 0x7e) (eqb b 0x00) (eqb b 0xff) e
+  where
+    go : (x y z : Bool) → (not x && not (y || z)) ≡ true → cond x (To StartOfFrame) (cond y (To Idle) (cond z (To Idle) (To Noise))) ≡ To Noise
+    go true y z g = never g
+    go false true z g = never g
+    go false false true g = never g
+    go false false false g = refl
+
+-- what is raw leaves the tail, and is a unit of a frame that has room
+pub turnOf-tail : (len b : ℕ) → isOf sort.Raw b ≡ true → turnOf Giant len b ≡ To Giant
+unfolding isOf turnOf
+turnOf-tail len b e = rw (not-true (eqb b 0x7e) e)
+
+pub turnOf-unit : (len b : ℕ) → len < limit → isOf sort.Raw b ≡ true → turnOf Frame len b ≡ Push b
+unfolding isOf turnOf
+turnOf-unit len b h e = rw (not-true (eqb b 0x7e) e, lt-ltb len limit h)
+
+-- 7e begins a pair
+turnOf-pair : (len b : ℕ) → b ≡ 0x7e → turnOf Frame len b ≡ To FrameEscape
+unfolding turnOf
+turnOf-pair len b e = rw e
+
+abbrev pub placeOf : ℕ → ℕ → Place
+placeOf len i = record { len = len; at = i }
+
+two : (i : ℕ) → i + 2 ≡ i + 1 + 1
+two i = omega arith
+
+next : (i m : ℕ) → i + suc m ≡ i + m + 1
+next i m = add-suc i m ∙ sym (add-one (i + m))
+
+less : (m : ℕ) → m < suc m
+less m = omega arith
+
+more : (k m : ℕ) → k < m → k < suc m
+more k m h = omega arith
+
+module _ (check : List ℕ → ℕ) (s : List ℕ) where
+  -- bytes that leave the state
+  pub feedFrom-stays :
+      (state : State) (p : ℕ → Bool) (len : ℕ) → ((b : ℕ) → p b ≡ true → turnOf state len b ≡ To state) → len ≤ limit →
+      (body : List ℕ) (t : Tallies) (i m : ℕ) → i + m ≤ length s → All p s i m →
+      feedFrom check (madeOf state body len t) (drop (i + m) s) (i + m) ≡ feedFrom check (madeOf state body len t) (drop i s) i
+  feedFrom-stays state p len turns h body t i zero g a = ap (λ (n : ℕ). feedFrom check (madeOf state body len t) (drop n s) n) (add-zero i)
+  feedFrom-stays state p len turns h body t i (suc m) g a =
+      let r = madeOf state body len t in
+      ap (λ (n : ℕ). feedFrom check r (drop n s) n) (next i m)
+      ∙ feedFrom-more check r r s (i + m) (omega (arith, next i m)) (stepOf-within check r (getD s (i + m) 0) (To state) h (turns (getD s (i + m) 0) (a m (less m))))
+      ∙ feedFrom-stays state p len turns h body t i m (omega (arith, next i m)) (λ k u. a k (more k m u))
+
+  -- raw bytes of an open frame, as far as there is room
+  pub feedFrom-units :
+      (body : List ℕ) (len : ℕ) (t : Tallies) (i m : ℕ) → len + m ≤ limit → i + m ≤ length s → All (isOf sort.Raw) s i m →
+      feedFrom check (madeOf Frame (laid body len s i m) (len + m) t) (drop (i + m) s) (i + m) ≡ feedFrom check (madeOf Frame body len t) (drop i s) i
+  feedFrom-units body len t i zero h g a =
+      ap₂ (λ (l n : ℕ). feedFrom check (madeOf Frame body l t) (drop n s) n) (add-zero len) (add-zero i)
+  feedFrom-units body len t i (suc m) h g a =
+      let r = madeOf Frame (laid body len s i m) (len + m) t in
+      let b = getD s (i + m) 0 in
+      let l : len + m < limit = omega (arith, next len m) in
+      ap₂ (λ (l n : ℕ). feedFrom check (madeOf Frame (laid body len s i (suc m)) l t) (drop n s) n) (next len m) (next i m)
+      ∙ feedFrom-more check r (madeOf Frame (set (laid body len s i m) (len + m) b) (len + m + 1) t) s (i + m) (omega (arith, next i m)) (stepOf-within check r b (Push b) (le-of-lt l) (turnOf-unit (len + m) b l (a m (less m))))
+      ∙ feedFrom-units body len t i m (le-of-lt l) (omega (arith, next i m)) (λ k u. a k (more k m u))
+
+  -- so a feeding under way goes on from there: the loop of `advance` cites this
+  pub feeding-ahead :
+      (f : Fed) (state : State) (body : List ℕ) (len : ℕ) (t : Tallies) (i : ℕ) (next : List ℕ) (p : Place) →
+      Feeding check s f (madeOf state body len t) i → Ahead check state s body len i next p → length next ≡ length body →
+      Feeding check s f (madeOf state next (p .len) t) (p .at)
+  feeding-ahead f state body len t i next p g a e =
+      record { placed = a .placed; within = a .within; sized = e ∙ g .sized; same = a .same t ∙ g .same }
+
+  -- units of an open frame taken so far, from a body, a length and a place: the loop of `units` keeps this
+  pub record Held (body : List ℕ) (len i : ℕ) (next : List ℕ) (p : Place) : Type 0 where
+    pub ahead : Ahead check Frame s body len i next p
+    pub sized : length next ≡ limit
+
+  pub held-none : (body : List ℕ) (len i : ℕ) → len ≤ limit → length body ≡ limit → i ≤ length s → Held body len i body (placeOf len i)
+  held-none body len i h e g = record { ahead = record { placed = g; further = omega arith; within = h; same = λ t. refl }; sized = e }
+
+  module _ (b₀ : List ℕ) (l₀ i₀ : ℕ) (body : List ℕ) (len i : ℕ) (held : Held b₀ l₀ i₀ body (placeOf len i)) where
+    -- a run of raw bytes more
+    pub held-run :
+        (next : List ℕ) (k : ℕ) → k ≡ lead (isOf sort.Raw) (take (length body - len) (drop i s)) → next ≡ paste body len (drop i s) k →
+        Held b₀ l₀ i₀ next (placeOf (len + k) (i + k))
+    held-run next k e f =
+        let room = length body - len in
+        let here : i ≤ length s = held .ahead .placed in
+        let fits : k ≤ room = copy-room (isOf sort.Raw) s i room k here e in
+        let placed : i + k ≤ length s = copy-placed (isOf sort.Raw) s i room k here e in
+        let within : len + k ≤ limit = omega (arith, held .sized, held .ahead .within) in
+        let laid-now : next ≡ laid body len s i k = f ∙ sym (laid-paste body len s i k (omega (arith, held .sized)) placed) in
+        record {
+          ahead =
+              record {
+                placed = placed;
+                further = omega (arith, held .ahead .further);
+                within = within;
+                same =
+                    λ t.
+                    ap (λ (x : List ℕ). feedFrom check (madeOf Frame x (len + k) t) (drop (i + k) s) (i + k)) laid-now
+                    ∙ feedFrom-units body len t i k within placed (copy-all (isOf sort.Raw) s i room k here e)
+                    ∙ held .ahead .same t;
+              };
+          sized = ap length laid-now ∙ length-laid body len s i k ∙ held .sized;
+        }
+
+    -- an escape more
+    pub held-escape :
+        (d : ℕ) → i + 2 ≤ length s → len < limit → getD s i 0 ≡ 0x7e → turnOf FrameEscape len (getD s (i + 1) 0) ≡ Push d →
+        Held b₀ l₀ i₀ (set body len d) (placeOf (len + 1) (i + 2))
+    held-escape d g h e f =
+        record {
+          ahead =
+              record {
+                placed = g;
+                further = omega (arith, held .ahead .further);
+                within = omega arith;
+                same =
+                    λ t.
+                    let r = madeOf Frame body len t in
+                    let q = madeOf FrameEscape body len t in
+                    ap (λ (n : ℕ). feedFrom check (madeOf Frame (set body len d) (len + 1) t) (drop n s) n) (two i)
+                    ∙ feedFrom-more check q (madeOf Frame (set body len d) (len + 1) t) s (i + 1) (omega arith) (stepOf-within check q (getD s (i + 1) 0) (Push d) (le-of-lt h) f)
+                    ∙ feedFrom-more check r q s i (omega arith) (stepOf-within check r (getD s i 0) (To FrameEscape) (le-of-lt h) (turnOf-pair len (getD s i 0) e))
+                    ∙ held .ahead .same t;
+              };
+          sized = simp length-set (held .sized);
+        }
