@@ -139,11 +139,7 @@ fn copy_in(d: &mut [u8], at: usize, s: &[u8])
     requires { ⌜ at + length (now s) ≤ length (now d) ⌝ }
     ensures { λ r. ⌜ now (d .exit) ≡ laidAt at (now (s .entry)) (now (d .entry)) ⌝ }
 {
-    let mut j: usize = 0;
-    while j < s.len() {
-        d[at + j] = s[j];
-        j += 1;
-    }
+    bytes::copy(s, &mut d[at..]);
 }
 
 // Writes what stands before a body of `n` bytes.

@@ -1,11 +1,12 @@
 -- Bytes laid over a buffer, piece by piece: the encoders' loops and copies cite these. Assumes nothing.
 use mathlib.Core.Path.{_≡_, refl, sym, ap, _∙_}
-use mathlib.Core.List.{List, [], _∷_, _++_, append-assoc}
-use Prim.Native.Nat.{ℕ, _+_, _≤_, _<_}
+use mathlib.Core.List.{List, [], _∷_, _++_, append-assoc, append-nil}
+use Prim.Native.Nat.{ℕ, _+_, _-_, _≤_, _<_}
+use borrow.Rule.Slice.PartMut.{putMid, midOf}
 use native.Mathlib.Numerals.{add-one}
 use native.Mathlib.Omega.{arith}
-use lib.ListN.{length, take, drop, set, length-append, length-drop, take-append-drop}
-use lib.Seq.{paste, take-paste, drop-paste, drop-cons, set-append-seam, append-snoc, take-append-seam, drop-append-seam, drop-append-add, drop-drop, take-length, drop-append-le}
+use lib.ListN.{length, take, drop, set, length-append, length-drop, take-append-drop, drop-of-length-le}
+use lib.Seq.{take-all, paste, take-paste, drop-paste, drop-cons, set-append-seam, append-snoc, take-append-seam, drop-append-seam, drop-append-add, drop-drop, take-length, drop-append-le}
 use Rattle.laws.specs.Bytes.{laidOver}
 
 -- what is written fits, so the buffer keeps its length
@@ -47,3 +48,11 @@ paste-append d at xs ys h =
       take-length (xs ++ ys),
     )
     (ap (λ (l : List ℕ). l ++ drop (at + length (xs ++ ys)) d) (append-assoc (take at d) xs ys))
+
+-- a piece copied over the part of a buffer that starts at a place is a copy at that place
+pub paste-part : (d : List ℕ) (at : ℕ) (s : List ℕ) → at ≤ length d
+    → putMid at (length d - at) d (take (length s) s ++ drop (length s) (midOf at (length d - at) d)) ≡ paste d at s (length s)
+paste-part d at s h =
+    let l : length (drop at d) ≤ length d - at = simp length-drop (omega arith) in
+    rw (take-all (length d - at) (drop at d) l, drop-of-length-le (drop at d) l, append-nil, drop-drop)
+    (sym (append-assoc (take at d) (take (length s) s) (drop (at + length s) d)))

@@ -117,18 +117,3 @@ pub fn field(text: &[u8], from: usize, to: &mut [u8]) -> Filled
 fn byte_of(high: usize, low: usize) -> u8 {
     ((high % 16) * 16 + low % 16) as u8
 }
-
-// The place behind the next line end.
-pub fn next_line(text: &[u8], from: usize) -> usize
-    requires { ⌜ from < length (now text) ⌝ }
-    ensures { λ r. ⌜ (from < r) × (r ≤ length (now (text .entry))) ⌝ }
-{
-    let mut i = from;
-    while i < text.len() {
-        if text[i] == 0x0a {
-            return i + 1;
-        }
-        i += 1;
-    }
-    i
-}

@@ -65,25 +65,11 @@ fn judge(kind: u8, input: &[u8], text: &[u8], at: usize) -> Line
 fn compare(kind: u8, input: &[u8], expected: &[u8]) -> Line {
     let mut got = [0xeeu8; 70000];
     let n = run(kind, input, &mut got);
-    if same(&got[..n], expected) {
+    if check::same(&got[..n], expected) {
         Line::Agrees
     } else {
         Line::Differs
     }
-}
-
-fn same(a: &[u8], b: &[u8]) -> bool {
-    if a.len() != b.len() {
-        return false;
-    }
-    let mut i = 0;
-    while i < a.len() {
-        if a[i] != b[i] {
-            return false;
-        }
-        i += 1;
-    }
-    true
 }
 
 // Runs the function of a file. The answer, and a lent buffer behind it, go to the start of `got`, which holds ee throughout.

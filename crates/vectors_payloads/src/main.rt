@@ -30,21 +30,6 @@ fn digit(b: u8) -> u8
     16
 }
 
-// The first place from `at` on that holds no byte above `limit`, or the end.
-fn end_of(text: &[u8], at: usize, limit: u8) -> usize
-    requires { ⌜ at ≤ length (now text) ⌝ }
-    ensures { λ r. ⌜ (at ≤ r) × (r ≤ length (now (text .entry))) ⌝ }
-{
-    let mut i = at;
-    while i < text.len() {
-        if text[i] <= limit {
-            return i;
-        }
-        i += 1;
-    }
-    i
-}
-
 // The number that hexadecimal digits spell, up to the first byte that is none.
 fn number(word: &[u8]) -> u64 {
     let mut n: u64 = 0;
@@ -188,12 +173,12 @@ fn judged(line: &[u8]) -> u8 {
     if line[0] == 0x23 {
         return 0;
     }
-    let told = end_of(line, 2, 0x20);
+    let told = bytes::scan::find(line, 2, line.len(), b' ');
     if line.len() <= told {
         return 2;
     }
     let from = told + 1;
-    let to = end_of(line, from, 0x20);
+    let to = bytes::scan::find(line, from, line.len(), b' ');
     let expected = number(&line[2..told]);
     let mut input = [0u8; 512];
     let n = bytes(&line[from..to], &mut input);
@@ -216,7 +201,7 @@ fn run(text: &[u8]) -> Ran {
     let mut wrong: u64 = 0;
     let mut at: usize = 0;
     while at < text.len() {
-        let end = end_of(text, at, 0x0a);
+        let end = bytes::scan::find(text, at, text.len(), b'\n');
         let j = judged(&text[at..end]);
         if j != 0 {
             rows = std::num::wrapping_add_u64(rows, 1);

@@ -147,18 +147,6 @@ fn agrees(row: &[u8]) -> bool {
     }
 }
 
-// The place behind the first line, which says what the file is.
-fn after_line(text: &[u8]) -> usize {
-    let mut i: usize = 0;
-    while i < text.len() {
-        if text[i] == 10 {
-            return i + 1;
-        }
-        i += 1;
-    }
-    i
-}
-
 // How many rows there are, and how many agree.
 struct Count {
     all: u64,
@@ -175,7 +163,8 @@ fn name(row: &[u8]) {
 fn run(text: &[u8]) -> Count {
     let mut all: u64 = 0;
     let mut agreed: u64 = 0;
-    let mut at = after_line(text);
+    // the first line says what the file is
+    let mut at = bytes::scan::find(text, 0, text.len(), b'\n') + 1;
     while at < text.len() {
         let row = &text[at..];
         all = std::num::wrapping_add_u64(all, 1);

@@ -2,12 +2,10 @@
 // address, type, payload length and the check of its payload, and then the ledger's nine numbers. A line that starts with # is passed on.
 // What the Rust makes of the same streams is the file `stdout`; tools/oracle writes both.
 ghost use Prim.Native.Nat.{_≤_};
-ghost use lib.ListN.{length};
 use address::Address;
 use libc::STDOUT_FILENO;
 use link_receive::Answer;
 use link_receive::Receiver;
-use link_receive::State;
 
 // The value of a hexadecimal digit; 16 for any other byte.
 fn digit(b: u8) -> u8
@@ -57,19 +55,6 @@ fn frame(a: Answer, body: &[u8]) {
     }
 }
 
-// 1 while a frame is open.
-fn open(s: State) -> u64 {
-    match s {
-        State::Idle => 0,
-        State::Noise => 0,
-        State::StartOfFrame => 0,
-        State::Frame => 1,
-        State::FrameEscape => 1,
-        State::Giant => 0,
-        State::GiantEscape => 0,
-    }
-}
-
 fn ledger(r: Receiver) {
     let t = r.tallies;
     let s = r.state;
@@ -81,7 +66,7 @@ fn ledger(r: Receiver) {
     number(t.escaped);
     number(t.broken);
     number(t.noise);
-    io::print_decimal(STDOUT_FILENO, open(s));
+    io::print_decimal(STDOUT_FILENO, link_receive::open_frames(s));
     io::write_all(STDOUT_FILENO, b"\n");
 }
 
@@ -110,21 +95,6 @@ fn stream(line: &[u8]) {
     ledger(r);
 }
 
-// The place of the next line end, or the end of the text.
-fn line_end(text: &[u8], from: usize) -> usize
-    requires { ⌜ from ≤ length (now text) ⌝ }
-    ensures { λ r. ⌜ (from ≤ r) × (r ≤ length (now (text .entry))) ⌝ }
-{
-    let mut i = from;
-    while i < text.len() {
-        if text[i] == 0x0a {
-            return i;
-        }
-        i += 1;
-    }
-    i
-}
-
 fn line(s: &[u8]) {
     if 0 < s.len() {
         if s[0] == 0x23 {
@@ -139,7 +109,7 @@ fn line(s: &[u8]) {
 fn replay(text: &[u8]) {
     let mut i = 0;
     while i < text.len() {
-        let end = line_end(text, i);
+        let end = bytes::scan::find(text, i, text.len(), b'\n');
         line(&text[i..end]);
         i = end + 1;
     }

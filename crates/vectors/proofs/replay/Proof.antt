@@ -1,5 +1,5 @@
 -- `replay` goes from line to line, each further on than the one before. Assumes nothing.
-use Prim.Native.Nat.{_≤_, _<_, _-_}
+use Prim.Native.Nat.{_+_, _≤_, _-_}
 use mathlib.Core.Path.{_≡_}
 use lib.ListN.{length}
 use borrow.Author.Needs.{needs}
@@ -7,10 +7,10 @@ use Rattle.vectors.proofs.replay.Statement.{statement}
 use Rattle.vectors.proofs.replay.Tie as tie
 
 abbrev Inv-loop : tie.InvT-loop
-Inv-loop kind text all₀ agreed₀ i₀ all agreed i = i ≤ length text
+Inv-loop kind text all₀ agreed₀ i₀ all agreed i = i ≤ length text + 1
 
 abbrev μ-loop : tie.MeasureT-loop
-μ-loop kind text all₀ agreed₀ i₀ all agreed i = length text - i
+μ-loop kind text all₀ agreed₀ i₀ all agreed i = length text + 1 - i
 
 loop-holds : tie.Need-loop-holds Inv-loop μ-loop
 loop-holds c = search needs
@@ -36,8 +36,11 @@ wrapping-add-u64-requires-3 c κs = search needs
 enum-told-3 : tie.Need-enum-told-3 Inv-loop μ-loop
 enum-told-3 c = search needs
 
-next-line-requires : tie.Need-next-line-requires Inv-loop μ-loop
-next-line-requires c κs = search needs
+find-requires : tie.Need-find-requires Inv-loop μ-loop
+find-requires c κs = search needs
+
+add-i : tie.Need-add-i Inv-loop μ-loop
+add-i c = search needs
 
 loop-less : tie.Need-loop-less Inv-loop μ-loop
 loop-less c = search needs
@@ -62,7 +65,8 @@ replay-spec =
     enum-told-2
     wrapping-add-u64-requires-3
     enum-told-3
-    next-line-requires
+    find-requires
+    add-i
     loop-less
     loop-again
     returns)

@@ -14,8 +14,8 @@ abbrev μ-loop : tie.MeasureT-loop
 loop-holds : tie.Need-loop-holds Inv-loop μ-loop
 loop-holds c = search needs
 
-end-of-requires : tie.Need-end-of-requires Inv-loop μ-loop
-end-of-requires c κs = search needs
+find-requires : tie.Need-find-requires Inv-loop μ-loop
+find-requires c κs = search needs
 
 sub-judged : tie.Need-sub-judged Inv-loop μ-loop
 sub-judged c = search needs
@@ -57,7 +57,7 @@ run-spec =
     Inv-loop
     μ-loop
     loop-holds
-    end-of-requires
+    find-requires
     sub-judged
     part-judged-start
     part-judged-end

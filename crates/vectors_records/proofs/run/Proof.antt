@@ -1,5 +1,5 @@
 -- `vectors_records::run` ends: each row takes at least 16 bytes. Assumes nothing.
-use Prim.Native.Nat.{_≤_, _-_}
+use Prim.Native.Nat.{_+_, _≤_, _-_}
 use native.Mathlib.Omega.{arith}
 use lib.ListN.{length}
 use borrow.Author.Needs.{needs}
@@ -12,8 +12,11 @@ Inv-loop text all₀ agreed₀ at₀ all agreed at = 0 ≤ at
 abbrev μ-loop : tie.MeasureT-loop
 μ-loop text all₀ agreed₀ at₀ all agreed at = length text - at
 
-after-line-requires : tie.Need-after-line-requires Inv-loop μ-loop
-after-line-requires c κs = search needs
+find-requires : tie.Need-find-requires Inv-loop μ-loop
+find-requires c κs = search needs
+
+add-at : tie.Need-add-at Inv-loop μ-loop
+add-at c = search needs
 
 loop-holds : tie.Need-loop-holds Inv-loop μ-loop
 loop-holds c = search needs
@@ -42,8 +45,8 @@ name-requires c κs = search needs
 length-of-requires : tie.Need-length-of-requires Inv-loop μ-loop
 length-of-requires c κs = search needs
 
-add-at : tie.Need-add-at Inv-loop μ-loop
-add-at c = search needs
+add-at-2 : tie.Need-add-at-2 Inv-loop μ-loop
+add-at-2 c = search needs
 
 loop-less : tie.Need-loop-less Inv-loop μ-loop
 loop-less c = search needs
@@ -60,7 +63,8 @@ run-spec =
     (tie.spec
     Inv-loop
     μ-loop
-    after-line-requires
+    find-requires
+    add-at
     loop-holds
     sub-row
     part-row-start
@@ -70,7 +74,7 @@ run-spec =
     wrapping-add-u64-requires-2
     name-requires
     length-of-requires
-    add-at
+    add-at-2
     loop-less
     loop-again
     returns)
