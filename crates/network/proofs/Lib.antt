@@ -1,3 +1,4 @@
 pub mod Split
 pub mod Walk
+pub mod Walker
 pub mod Nodes

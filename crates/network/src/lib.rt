@@ -5,6 +5,10 @@ ghost use Rattle.laws.specs.Bytes.{of16};
 ghost use Rattle.network.specs.Split.{foundAt, tallyOf};
 ghost use Rattle.network.specs.Nodes.{nodeOf, addressOf, successorOf, headerOf};
 
+mod received_packets;
+
+pub use received_packets::ReceivedPackets;
+
 // The type of a PV application packet.
 pub struct PacketType(pub u8);
 

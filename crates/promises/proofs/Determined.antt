@@ -1,5 +1,6 @@
 -- Each public contract determines its outcome, of whatever function a caller can name. Of `payload` and `request_payload`, which hand back a part of
--- what they are lent, it determines the bytes. The doors of the comparison are not among them. Assumes nothing.
+-- what they are lent, it determines the bytes. Functions whose proofs are walked by hand are in Walked.antt; the doors of the comparison are not
+-- among them. Assumes nothing.
 use mathlib.Core.Path.{_≡_, refl, sym, ap, _∙_}
 use mathlib.Core.Bool.{Bool, true, false}
 use mathlib.Core.Logic.{_↔_}

@@ -1,3 +1,4 @@
 pub mod Ledgers
 pub mod Determined
+pub mod Walked
 pub mod Marked
