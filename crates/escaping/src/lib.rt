@@ -1,10 +1,13 @@
 // Gateway link layer escaping (link/escaping.rs).
 ghost use mathlib.Core.Path.{_≡_};
-ghost use Prim.Native.Nat.{_≤_};
+ghost use Prim.Native.Nat.{_+_, _≤_};
 ghost use lib.ListN.{length};
+ghost use lib.Seq.{paste};
+ghost use lib.Dec.{leb};
 ghost use Rattle.laws.specs.Bytes.{laidOver};
-ghost use Rattle.escaping.specs.Escapes.{codeOf, escaped};
+ghost use Rattle.escaping.specs.Escapes.{codeOf, escapedByte, escaped};
 ghost use Rattle.escaping.specs.Handed.{handedByte, handedLength, handedWritten, inputLimit, unescapeHanded, lengthHanded, escapeHanded, escapeBytes};
+use runs::Sort;
 
 // The longest input that is escaped or measured.
 pub const INPUT_LIMIT: usize = 65536;
@@ -73,27 +76,51 @@ pub fn escaped_length(input: &[u8]) -> Measured
     Measured::Length(length_of(input))
 }
 
-// Writes the escaped form of `input` to the start of `out`, which has room for it.
-fn write_escaped(input: &[u8], out: &mut [u8])
+// Whether the escaped form of an input of at most 65,536 bytes fits into so much room. Twice its length is always enough.
+fn has_room(input: &[u8], room: usize) -> bool
+    requires { ⌜ length (now input) ≤ inputLimit ⌝ }
+    ensures { λ r. ⌜ r ≡ leb (length (escaped (now (input .entry)))) room ⌝ }
+{
+    if 2 * input.len() <= room {
+        return true;
+    }
+    length_of(input) <= room
+}
+
+// Writes the escaped form of a byte at a place with room for it; the place after it.
+fn write_byte(b: u8, out: &mut [u8], k: usize) -> usize
+    requires { ⌜ k + length (escapedByte b) ≤ length (now out) ⌝ }
+    ensures { λ r. ⌜ (r ≡ k + length (escapedByte b)) × (now (out .exit) ≡ paste (now (out .entry)) k (escapedByte b) (length (escapedByte b))) ⌝ }
+{
+    let code = code_of(b);
+    if code < 7 {
+        out[k] = 0x7e;
+        out[k + 1] = code;
+        return k + 2;
+    }
+    out[k] = b;
+    k + 1
+}
+
+// Writes the escaped form of `input` to the start of `out`, which has room for it; its length. Runs of bytes that stand for
+// themselves are copied at once.
+fn write_escaped(input: &[u8], out: &mut [u8]) -> usize
     requires { ⌜ length (escaped (now input)) ≤ length (now out) ⌝ }
-    ensures { λ _. ⌜ now (out .exit) ≡ laidOver (escaped (now (input .entry))) (now (out .entry)) ⌝ }
+    ensures { λ r. ⌜ (r ≡ length (escaped (now (input .entry)))) × (now (out .exit) ≡ laidOver (escaped (now (input .entry))) (now (out .entry))) ⌝ }
 {
     let mut k = 0;
     let mut i = 0;
     while i < input.len() {
-        let b = input[i];
-        let code = code_of(b);
-        if code < 7 {
-            out[k] = 0x7e;
-            out[k + 1] = code;
-            k += 2;
-            i += 1;
-        } else {
-            out[k] = b;
-            k += 1;
-            i += 1;
+        let n = runs::copy_run(Sort::Plain, out, k, input, i);
+        k += n;
+        i += n;
+        if i == input.len() {
+            break;
         }
+        k = write_byte(input[i], out, k);
+        i += 1;
     }
+    k
 }
 
 // Escapes `input` to the start of `out`. Refused by 10, then 11; a refusal leaves `out` as it was.
@@ -104,12 +131,11 @@ pub fn escape(input: &[u8], out: &mut [u8]) -> Escaped
     if INPUT_LIMIT < input.len() {
         return Escaped::TooLong;
     }
-    let n = length_of(input);
-    if out.len() < n {
-        return Escaped::NoRoom;
+    if has_room(input, out.len()) {
+        let n = write_escaped(input, out);
+        return Escaped::Written(n);
     }
-    write_escaped(input, out);
-    Escaped::Written(n)
+    Escaped::NoRoom
 }
 
 // The byte that stands behind 7e and `code`. Refused by 14 if the code is above 06.

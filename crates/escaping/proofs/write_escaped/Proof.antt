@@ -1,117 +1,109 @@
--- `escaping::write_escaped` writes exactly the escaped form: after each byte, that of the part of the input passed is laid over `out`. Assumes nothing.
-use mathlib.Core.Path.{_≡_, refl, sym, _∙_, ap}
-use Prim.Native.Nat.{ℕ, _≤_, _-_}
-use mathlib.Core.List.{List}
+-- `escaping::write_escaped` writes exactly the escaped form: after each turn, that of the part of the input passed is laid over `out`. Assumes nothing.
+use Prim.Native.Nat.{_≤_, _-_, _+_}
 use native.Mathlib.Omega.{arith}
+use lib.ListN.{length}
 use borrow.Author.Needs.{needs}
-use lib.ListN.{length, take, length-set}
-use Rattle.laws.specs.Bytes.{laidOver}
-use Rattle.escaping.specs.Escapes.{escaped}
-use Rattle.escaping.proofs.Lengths.{length-escaped-take-pair, length-escaped-take-raw, escaped-take-end}
-use Rattle.escaping.proofs.Writes.{room-pair, room-raw, laid-pair, laid-raw}
+use Rattle.escaping.proofs.Writes.{Laid, laid-none, laid-all, laid-within, laid-run, byte-room, laid-byte}
 use Rattle.escaping.proofs.write_escaped.Statement.{statement}
 use Rattle.escaping.proofs.write_escaped.Tie as tie
 
 abbrev Inv-loop : tie.InvT-loop
-Inv-loop input out₀ k₀ i₀ out k i = (i ≤ length input) × (length out ≡ length out₀) × (k ≡ length (escaped (take i input))) × (out ≡ laidOver (escaped (take i input)) out₀)
+Inv-loop input out₀ k₀ i₀ out k i = Laid input out₀ out i k
 
 abbrev μ-loop : tie.MeasureT-loop
 μ-loop input out₀ k₀ i₀ out k i = length input - i
 
 loop-holds : tie.Need-loop-holds Inv-loop μ-loop
-unfolding escaped
-loop-holds c = (search needs, search needs, search needs, refl)
+loop-holds c =
+    let a = c .before .before .args in
+    laid-none (a .input .now) (a .out .now) (c .before .before .pre)
 
-shared-slice-read-b : tie.Need-shared-slice-read-b Inv-loop μ-loop
-shared-slice-read-b c = search needs
-
-code-of-requires : tie.Need-code-of-requires Inv-loop μ-loop
-code-of-requires c κs = search needs
-
-slice-write-out : tie.Need-slice-write-out Inv-loop μ-loop
-slice-write-out c =
-    let l = c .before .before .before .before .loop in
-    let a = c .before .before .before .before .before .before .before .args in
-    let h = room-pair (a .input .now) (a .out .now) (l .i) (c .before .code-of .result) (c .before .before .before .loop-test .taken) (c .before .code-of .ensures) (c .before .before .before .before .before .before .before .pre) (c .if1 .taken) in
-    omega arith
-
-add-out : tie.Need-add-out Inv-loop μ-loop
-add-out c =
-    let l = c .before .before .before .before .loop in
-    let a = c .before .before .before .before .before .before .before .args in
-    let h = room-pair (a .input .now) (a .out .now) (l .i) (c .before .code-of .result) (c .before .before .before .loop-test .taken) (c .before .code-of .ensures) (c .before .before .before .before .before .before .before .pre) (c .if1 .taken) in
-    omega arith
-
-slice-write-out-2 : tie.Need-slice-write-out-2 Inv-loop μ-loop
-slice-write-out-2 c =
-    let l = c .before .before .before .before .loop in
-    let a = c .before .before .before .before .before .before .before .args in
-    let h = room-pair (a .input .now) (a .out .now) (l .i) (c .before .code-of .result) (c .before .before .before .loop-test .taken) (c .before .code-of .ensures) (c .before .before .before .before .before .before .before .pre) (c .if1 .taken) in
-    simp length-set (omega arith)
+copy-run-requires : tie.Need-copy-run-requires Inv-loop μ-loop
+copy-run-requires c κs = search needs
 
 add-k : tie.Need-add-k Inv-loop μ-loop
 add-k c =
-    let l = c .before .before .before .before .loop in
-    let a = c .before .before .before .before .before .before .before .args in
-    let h = room-pair (a .input .now) (a .out .now) (l .i) (c .before .code-of .result) (c .before .before .before .loop-test .taken) (c .before .code-of .ensures) (c .before .before .before .before .before .before .before .pre) (c .if1 .taken) in
-    omega arith
+    let a = c .before .before .before .before .before .before .before .before .args in
+    let l = c .before .before .before .before .before .loop in
+    let run = c .before .before .copy-run in
+    let next = run .last .1 .0 in
+    let g = laid-run (a .input .now) (a .out .now) (c .before .before .before .before .before .before .before .before .pre) (l .out) (l .i) (l .k) (l .inv) next (run .result) (run .ensures .0) (run .ensures .1) in
+    omega (arith, laid-within (a .input .now) (a .out .now) (c .before .before .before .before .before .before .before .before .pre) next (l .i + run .result) (l .k + run .result) g)
 
 add-i : tie.Need-add-i Inv-loop μ-loop
-add-i c = search needs
+add-i c =
+    let a = c .before .before .before .before .before .before .before .before .args in
+    let l = c .before .before .before .before .before .loop in
+    let run = c .before .before .copy-run in
+    let next = run .last .1 .0 in
+    let g = laid-run (a .input .now) (a .out .now) (c .before .before .before .before .before .before .before .before .pre) (l .out) (l .i) (l .k) (l .inv) next (run .result) (run .ensures .0) (run .ensures .1) in
+    omega (arith, g .placed)
+
+shared-slice-read-write-byte : tie.Need-shared-slice-read-write-byte Inv-loop μ-loop
+shared-slice-read-write-byte c =
+    let a = c .before .before .before .before .before .before .before .before .before .before .args in
+    let l = c .before .before .before .before .before .before .before .loop in
+    let run = c .before .before .before .before .copy-run in
+    let next = run .last .1 .0 in
+    let g = laid-run (a .input .now) (a .out .now) (c .before .before .before .before .before .before .before .before .before .before .pre) (l .out) (l .i) (l .k) (l .inv) next (run .result) (run .ensures .0) (run .ensures .1) in
+    omega (arith, g .placed)
+
+write-byte-requires : tie.Need-write-byte-requires Inv-loop μ-loop
+write-byte-requires c κs =
+    let a = c .before .before .before .before .before .before .before .before .before .before .before .args in
+    let l = c .before .before .before .before .before .before .before .before .loop in
+    let run = c .before .before .before .before .before .copy-run in
+    let next = run .last .1 .0 in
+    let g = laid-run (a .input .now) (a .out .now) (c .before .before .before .before .before .before .before .before .before .before .before .pre) (l .out) (l .i) (l .k) (l .inv) next (run .result) (run .ensures .0) (run .ensures .1) in
+    byte-room (a .input .now) (a .out .now) (c .before .before .before .before .before .before .before .before .before .before .before .pre) next (l .i + run .result) (l .k + run .result) g (omega (arith, g .placed))
+
+add-i-2 : tie.Need-add-i-2 Inv-loop μ-loop
+add-i-2 c =
+    let a = c .before .before .before .before .before .before .before .before .before .before .before .before .before .before .args in
+    let l = c .before .before .before .before .before .before .before .before .before .before .before .loop in
+    let run = c .before .before .before .before .before .before .before .before .copy-run in
+    let next = run .last .1 .0 in
+    let g = laid-run (a .input .now) (a .out .now) (c .before .before .before .before .before .before .before .before .before .before .before .before .before .before .pre) (l .out) (l .i) (l .k) (l .inv) next (run .result) (run .ensures .0) (run .ensures .1) in
+    omega (arith, g .placed)
 
 loop-less : tie.Need-loop-less Inv-loop μ-loop
-loop-less c = search needs
+loop-less c =
+    let a = c .before .before .before .before .before .before .before .before .before .before .before .before .before .before .args in
+    let l = c .before .before .before .before .before .before .before .before .before .before .before .loop in
+    let run = c .before .before .before .before .before .before .before .before .copy-run in
+    let next = run .last .1 .0 in
+    let g = laid-run (a .input .now) (a .out .now) (c .before .before .before .before .before .before .before .before .before .before .before .before .before .before .pre) (l .out) (l .i) (l .k) (l .inv) next (run .result) (run .ensures .0) (run .ensures .1) in
+    omega (arith, g .placed)
 
 loop-again : tie.Need-loop-again Inv-loop μ-loop
 loop-again c =
-    let l = c .before .before .before .before .loop in
-    let a = c .before .before .before .before .before .before .before .args in
-    let h = room-pair (a .input .now) (a .out .now) (l .i) (c .before .code-of .result) (c .before .before .before .loop-test .taken) (c .before .code-of .ensures) (c .before .before .before .before .before .before .before .pre) (c .if1 .taken) in (
-      search needs,
-      simp length-set (l .inv .1),
-      rw (l .inv .2) (sym (length-escaped-take-pair (a .input .now) (l .i) (c .before .before .before .loop-test .taken) (rw (c .before .code-of .ensures) at (c .if1 .taken)))),
-      laid-pair (a .input .now) (a .out .now) (l .i) (c .before .code-of .result) (c .before .before .before .loop-test .taken) (c .before .code-of .ensures) (c .before .before .before .before .before .before .before .pre) _ (l .k) (c .if1 .taken) (l .inv .2) (l .inv .3),
-    )
-
-slice-write-out-3 : tie.Need-slice-write-out-3 Inv-loop μ-loop
-slice-write-out-3 c =
-    let l = c .before .before .before .before .loop in
-    let a = c .before .before .before .before .before .before .before .args in
-    let h = room-raw (a .input .now) (a .out .now) (l .i) (c .before .code-of .result) (c .before .before .before .loop-test .taken) (c .before .code-of .ensures) (c .before .before .before .before .before .before .before .pre) (c .if1 .left) in
-    omega arith
-
-add-k-2 : tie.Need-add-k-2 Inv-loop μ-loop
-add-k-2 c =
-    let l = c .before .before .before .before .loop in
-    let a = c .before .before .before .before .before .before .before .args in
-    let h = room-raw (a .input .now) (a .out .now) (l .i) (c .before .code-of .result) (c .before .before .before .loop-test .taken) (c .before .code-of .ensures) (c .before .before .before .before .before .before .before .pre) (c .if1 .left) in
-    omega arith
-
-add-i-2 : tie.Need-add-i-2 Inv-loop μ-loop
-add-i-2 c = search needs
-
-loop-less-2 : tie.Need-loop-less-2 Inv-loop μ-loop
-loop-less-2 c = search needs
-
-loop-again-2 : tie.Need-loop-again-2 Inv-loop μ-loop
-loop-again-2 c =
-    let l = c .before .before .before .before .loop in
-    let a = c .before .before .before .before .before .before .before .args in
-    let h = room-raw (a .input .now) (a .out .now) (l .i) (c .before .code-of .result) (c .before .before .before .loop-test .taken) (c .before .code-of .ensures) (c .before .before .before .before .before .before .before .pre) (c .if1 .left) in (
-      search needs,
-      simp length-set (l .inv .1),
-      rw (l .inv .2) (sym (length-escaped-take-raw (a .input .now) (l .i) (c .before .before .before .loop-test .taken) (rw (c .before .code-of .ensures) at (c .if1 .left)))),
-      laid-raw (a .input .now) (a .out .now) (l .i) (c .before .code-of .result) (c .before .before .before .loop-test .taken) (c .before .code-of .ensures) (c .before .before .before .before .before .before .before .pre) _ (l .k) (c .if1 .left) (l .inv .2) (l .inv .3),
-    )
+    let a = c .before .before .before .before .before .before .before .before .before .before .before .before .before .before .args in
+    let l = c .before .before .before .before .before .before .before .before .before .before .before .loop in
+    let run = c .before .before .before .before .before .before .before .before .copy-run in
+    let next = run .last .1 .0 in
+    let g = laid-run (a .input .now) (a .out .now) (c .before .before .before .before .before .before .before .before .before .before .before .before .before .before .pre) (l .out) (l .i) (l .k) (l .inv) next (run .result) (run .ensures .0) (run .ensures .1) in
+    laid-byte (a .input .now) (a .out .now) (c .before .before .before .before .before .before .before .before .before .before .before .before .before .before .pre) next (l .i + run .result) (l .k + run .result) g (omega (arith, g .placed)) _ _ (c .before .before .write-byte .ensures .0) (c .before .before .write-byte .ensures .1)
 
 same-length : tie.Need-same-length Inv-loop μ-loop
 same-length c = search needs
 
 returns : tie.Need-returns Inv-loop μ-loop
 returns c =
-    let l = c .before .loop in
     let a = c .before .before .before .before .args in
-    l .inv .3 ∙ ap (λ (w : List ℕ). laidOver w (a .out .now)) (escaped-take-end (a .input .now) (l .i) (c .loop-test .left))
+    let l = c .before .loop in
+    laid-all (a .input .now) (a .out .now) (c .before .before .before .before .pre) (l .out) (l .i) (l .k) (c .loop-test .left) (l .inv)
+
+same-length-2 : tie.Need-same-length-2 Inv-loop μ-loop
+same-length-2 c = search needs
+
+returns-2 : tie.Need-returns-2 Inv-loop μ-loop
+returns-2 c =
+    let a = c .before .before .before .before .before .before .before .before .before .args in
+    let l = c .before .before .before .before .before .before .loop in
+    let run = c .before .before .before .copy-run in
+    let next = run .last .1 .0 in
+    let g = laid-run (a .input .now) (a .out .now) (c .before .before .before .before .before .before .before .before .before .pre) (l .out) (l .i) (l .k) (l .inv) next (run .result) (run .ensures .0) (run .ensures .1) in
+    laid-all (a .input .now) (a .out .now) (c .before .before .before .before .before .before .before .before .before .pre) next (l .i + run .result) (l .k + run .result) (omega arith) g
 
 pub write-escaped-spec : {M : Type 1} → statement M
 write-escaped-spec =
@@ -120,19 +112,15 @@ write-escaped-spec =
     Inv-loop
     μ-loop
     loop-holds
-    shared-slice-read-b
-    code-of-requires
-    slice-write-out
-    add-out
-    slice-write-out-2
+    copy-run-requires
     add-k
     add-i
+    shared-slice-read-write-byte
+    write-byte-requires
+    add-i-2
     loop-less
     loop-again
-    slice-write-out-3
-    add-k-2
-    add-i-2
-    loop-less-2
-    loop-again-2
     same-length
-    returns)
+    returns
+    same-length-2
+    returns-2)
