@@ -274,7 +274,11 @@ fn main() {
     let number = |i: usize, n: usize| words.get(i).map_or(n, |w| w.parse().expect("race [ROUNDS [MIB [NAME]]]"));
     let (rounds, size) = (number(0, 21), number(1, 16) << 20);
     let mut rng = Rng::new(2);
-    let mut rows = vec![check_row("crc, slices of 64 bytes", size, 64), check_row("crc, slices of 254 bytes", size, 254)];
+    let mut rows = vec![
+        check_row("crc, slices of 10 bytes", size, 10),
+        check_row("crc, slices of 64 bytes", size, 64),
+        check_row("crc, slices of 254 bytes", size, 254),
+    ];
     let frames = |rng: &mut Rng, a, b| {
         let mut frames = Vec::new();
         let mut bytes = 0;

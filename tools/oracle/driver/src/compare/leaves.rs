@@ -235,6 +235,24 @@ pub fn encode(run: &mut Run) {
     }
     run.done(name, n);
 
+    let name = "encode: payloads of every length to 72 with each byte that is escaped at every place, and beside another";
+    let mut n = 0;
+    for len in 1..=72 {
+        for at in 0..len {
+            for b in [0x7e, 0x23, 0x24, 0x25, 0xa3, 0xa4, 0xa5] {
+                let mut payload = vec![0x41; len];
+                payload[at] = b;
+                let before = rng.bytes(160);
+                for other in [at, rng.below(len)] {
+                    payload[other] = b;
+                    run.same(name, &payload, &|s| encoded(true, 7, 0x0149, s, &before), &|s| encode_into(true, 7, 0x0149, s, &before));
+                    n += 1;
+                }
+            }
+        }
+    }
+    run.done(name, n);
+
     let name = "encode: every type, and every ID in both directions, with room to spare";
     let mut n = 0;
     for number in 0..=u16::MAX {
