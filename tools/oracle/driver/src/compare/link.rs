@@ -102,9 +102,10 @@ fn beginnings() -> [Vec<u8>; 16] {
 }
 
 pub fn exhaustive(run: &mut Run) {
-    let name = "receiver: every stream of 0 to 7 bytes of 00 ff 7e 07 08 01 41 24";
     let alphabet = [0x00, 0xff, 0x7e, 0x07, 0x08, 0x01, 0x41, 0x24];
-    let n = every(run, name, &[], &alphabet, 7);
+    let most = if run.scale < 1.0 { 5 } else { 7 };
+    let name = &format!("receiver: every stream of 0 to {most} bytes of 00 ff 7e 07 08 01 41 24");
+    let n = every(run, name, &[], &alphabet, most);
     run.done(name, n);
 
     let name = "receiver: every stream of 0 to 4 of these bytes after each of 16 beginnings (open frames of 0 to 257 units, tails, noise)";
@@ -130,7 +131,8 @@ pub fn exhaustive(run: &mut Run) {
 
 /// Runs of bytes of one sort, which the proved side takes many at a time.
 pub fn runs(run: &mut Run) {
-    let name = "receiver: runs of 0 to 72 bytes of each sort in each of 17 states, ended in 24 ways, whole and cut within";
+    let most = if run.scale < 1.0 { 18 } else { 72 };
+    let name = &format!("receiver: runs of 0 to {most} bytes of each sort in each of 17 states, ended in 24 ways, whole and cut within");
     let mut rng = run.part("runs");
     let sorts: [&[u8]; 6] = [&[0x00], &[0xff], &[0x00, 0xff, 0xff], &[0x41], &[0x41, 0x00, 0x24], &[0x7f, 0x80, 0xfe, 0x01, 0x7d]];
     let mut ends: Vec<Vec<u8>> = make::INTERESTING.iter().map(|b| vec![*b]).collect();
@@ -138,7 +140,7 @@ pub fn runs(run: &mut Run) {
     let mut n = 0;
     for beginning in beginnings().iter().chain([&vec![]]) {
         for sort in sorts {
-            for len in 0..=72 {
+            for len in 0..=most {
                 for end in &ends {
                     let mut stream = beginning.clone();
                     stream.extend(sort.iter().cycle().take(len));
@@ -163,7 +165,7 @@ pub fn limits(run: &mut Run) {
         [&[0x7e, 0x08], &[0x7e, 0x07], &[0x7e, 0x09], &[0x08], &[0x07], &[0x7e], &[], &[0x7e, 0x08, 0x7e, 0x07, 0x41, 0x7e, 0x08]];
     for units in 0..=270 {
         let times = if (250..=260).contains(&units) || units < 10 { 12 } else { 2 };
-        for _ in 0..times * run.scale {
+        for _ in 0..run.times(times) {
             for after in afters {
                 for escaped in [false, true] {
                     let stream = make::units(&mut rng, units, escaped, after);
@@ -185,7 +187,7 @@ pub fn limits(run: &mut Run) {
 pub fn random(run: &mut Run) {
     let name = "receiver: random streams (noise, framing bytes, frames in a row, damaged copies) in random cuts";
     let mut rng = run.part("random");
-    let count = 150_000 * run.scale;
+    let count = run.times(150_000);
     for _ in 0..count {
         let stream = make::stream(&mut rng);
         let cuts = make::cuts(&mut rng, stream.len());
@@ -195,7 +197,7 @@ pub fn random(run: &mut Run) {
 
     let name = "receiver: the same with counters reset at random places";
     let mut rng = run.part("resets");
-    let count = 15_000 * run.scale;
+    let count = run.times(15_000);
     for _ in 0..count {
         let stream = make::stream(&mut rng);
         let cuts = make::cuts(&mut rng, stream.len());
@@ -206,7 +208,7 @@ pub fn random(run: &mut Run) {
 
     let name = "receiver: the same by single steps, and as the ledger of one slice";
     let mut rng = run.part("steps");
-    let count = 15_000 * run.scale;
+    let count = run.times(15_000);
     for _ in 0..count {
         let stream = make::stream(&mut rng);
         run.same(name, &stream, &|s| hear(s, &[]), &stepped);
@@ -225,9 +227,9 @@ fn placed(heard: &Heard) -> Vec<u64> {
 pub fn captures(run: &mut Run) {
     let name = "receiver: captures of 256 KiB that look like a line, whole and damaged, and one of 4 MiB, in random cuts";
     let mut rng = run.part("captures");
-    let count = 6 * run.scale as u64;
+    let count = run.times(6) as u64;
     for k in 0..=count {
-        let size = if k == 0 { 4096 } else { 256 };
+        let size = if k == 0 { run.times(4096) } else { 256 };
         let mut stream = make::capture(run.seed.wrapping_mul(1000) + k, size * 1024);
         if k % 2 == 1 {
             for _ in 0..200 {
@@ -253,7 +255,7 @@ const OUTSIDE: [(u64, &[u8]); 3] = [(0, &[]), (1, &[0x41]), (2, &[0x7e])];
 pub fn made_up(run: &mut Run) {
     let name = "receiver: made-up states (a stale body outside a frame, tallies about to wrap)";
     let mut rng = run.part("made up");
-    let count = 15_000 * run.scale;
+    let count = run.times(15_000);
     for _ in 0..count {
         let (state, prefix) = rng.pick(&OUTSIDE);
         let stream = make::stream(&mut rng);

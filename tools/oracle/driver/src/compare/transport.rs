@@ -197,7 +197,7 @@ pub fn steps(run: &mut Run) {
     let mut frames_in_all = 0;
     let mut added = [0; 4];
     let mut seen: Seen = [0; 40];
-    for _ in 0..40_000 * run.scale {
+    for _ in 0..run.times(40_000) {
         let full = rng.one_in(10);
         let count = if full { rng.pick(&[4, 31, 32, 33, 34, 60]) } else { rng.pick(&[1, 2, 4, 8, 40]) };
         let gateways: Vec<u16> = (0..count).map(|_| if rng.one_in(9) { rng.pick(&[0, 0x7fff]) } else { rng.word() & 0x7fff }).collect();
@@ -214,8 +214,9 @@ pub fn steps(run: &mut Run) {
     }
     run.done(name, frames_in_all);
     say(&format!("           (frames; {} runs ended at 25, {} at 26, {} at 27, {} at 32, which 01 adds)", added[0], added[1], added[2], added[3]));
-    if let Some(never) = REACHED.iter().find(|n| seen[**n] == 0) {
-        run.differ(name, &format!("no frame was answered by {never}"));
+    match REACHED.iter().find(|n| seen[**n] == 0) {
+        Some(never) if run.scale >= 1.0 => run.differ(name, &format!("no frame was answered by {never}")),
+        _ => {}
     }
     let told: Vec<String> = REACHED[9..].iter().map(|n| format!("{n}: {}", seen[*n])).collect();
     say(&format!("           (refusals among them: {})", told.join(", ")));
@@ -302,8 +303,8 @@ pub fn captures(run: &mut Run) {
     let mut rng = run.part("transport captures");
     let mut n = 0;
     let mut seen: Seen = [0; 40];
-    for k in 0..=6 * run.scale as u64 {
-        let size = if k == 0 { 4096 } else { 256 };
+    for k in 0..=run.times(6) as u64 {
+        let size = if k == 0 { run.times(4096) } else { 256 };
         let mut stream = make::capture(run.seed.wrapping_mul(2000) + k, size * 1024);
         if k % 2 == 1 {
             for _ in 0..300 {
