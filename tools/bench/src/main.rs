@@ -12,11 +12,17 @@ use taptap::gateway::transport;
 use taptap::pv::network::ReceivedPacketHeader;
 use taptap::pv::{LongAddress, PacketType, SlotCounter};
 
-struct Row {
-    name: &'static str,
-    bytes: usize,
-    rust: Box<dyn FnMut() -> u64>,
-    ours: Box<dyn FnMut() -> u64>,
+/// How many bytes a row goes through, and the two sides of it.
+type Row = (usize, Box<dyn FnMut() -> u64>, Box<dyn FnMut() -> u64>);
+
+/// The rows by name. A row's input is made when its turn comes, so that a row can be run, and looked at, alone.
+#[derive(Default)]
+struct Rows(Vec<(&'static str, Box<dyn FnOnce() -> Row>)>);
+
+impl Rows {
+    fn add(&mut self, name: &'static str, row: impl FnOnce() -> Row + 'static) {
+        self.0.push((name, Box::new(row)));
+    }
 }
 
 /// Nanoseconds a byte: the least of the rounds, and the one in their middle.
@@ -47,25 +53,25 @@ fn timed(f: &mut dyn FnMut() -> u64) -> (f64, u64) {
     (clock() - start, result)
 }
 
-fn race(row: &mut Row, rounds: usize) {
+fn race(name: &str, (bytes, mut rusts, mut own): Row, rounds: usize) {
     let (mut rust, mut ours) = (Vec::new(), Vec::new());
     for round in 0..rounds {
         // who goes first changes, so that neither always finds the cache warm
         let (a, b) = if round % 2 == 0 {
-            let a = timed(&mut row.rust);
-            (a, timed(&mut row.ours))
+            let a = timed(&mut rusts);
+            (a, timed(&mut own))
         } else {
-            let b = timed(&mut row.ours);
-            (timed(&mut row.rust), b)
+            let b = timed(&mut own);
+            (timed(&mut rusts), b)
         };
-        assert_eq!(a.1, b.1, "{}: the two sides disagree", row.name);
+        assert_eq!(a.1, b.1, "{name}: the two sides disagree");
         rust.push(a.0);
         ours.push(b.0);
     }
-    let (r, o) = (figures(&mut rust, row.bytes), figures(&mut ours, row.bytes));
+    let (r, o) = (figures(&mut rust, bytes), figures(&mut ours, bytes));
     println!(
         "| {:<42} | {:>6.2} | {:>6.2} | {:>6.0} | {:>6.2} | {:>6.2} | {:>6.0} | {:>5.2} | {:>5.2} |",
-        row.name,
+        name,
         r.0,
         r.1,
         1000.0 / r.0,
@@ -79,14 +85,26 @@ fn race(row: &mut Row, rounds: usize) {
 
 // ---- the link receiver
 
-/// A sink that looks at each frame as little as it may: it adds up the payloads' lengths.
+/// A sink for the ledger, which drops each frame unseen. rustc then leaves out the frame's `Vec` altogether.
 #[derive(Debug, Default)]
-struct Lengths(u64);
+struct Unseen;
 
-impl link::Sink for Lengths {
+impl link::Sink for Unseen {
+    fn frame(&mut self, _: Frame) {}
+}
+
+/// A sink to which frames are handed out: each payload's bytes have to be there, and their lengths are added up.
+#[derive(Debug, Default)]
+struct Looked(u64);
+
+impl link::Sink for Looked {
     fn frame(&mut self, frame: Frame) {
-        self.0 += frame.payload.len() as u64;
+        self.0 += looked(&frame.payload);
     }
+}
+
+fn looked(payload: &[u8]) -> u64 {
+    black_box(payload).len() as u64
 }
 
 /// The five counters as one number.
@@ -94,32 +112,36 @@ fn told(frames: u64, runts: u64, checksums: u64, giants: u64, noise: u64) -> u64
     [frames, runts, checksums, giants, noise].iter().fold(0, |sum, n| sum.wrapping_mul(1_000_003).wrapping_add(*n))
 }
 
+#[inline(never)]
 fn rust_ledger(s: &[u8]) -> u64 {
-    let mut r = link::Receiver::new(Lengths::default());
+    let mut r = link::Receiver::new(Unseen);
     r.extend_from_slice(s);
     let c = r.counters();
     told(c.frames, c.runts, c.checksums, c.giants, c.noise)
 }
 
+#[inline(never)]
 fn our_ledger(s: &[u8]) -> u64 {
     let p = ours::ledger(s);
     told(p[3], p[4], p[5], p[6], p[9])
 }
 
+#[inline(never)]
 fn rust_frames(s: &[u8]) -> u64 {
-    let mut r = link::Receiver::new(Lengths::default());
+    let mut r = link::Receiver::new(Looked::default());
     r.extend_from_slice(s);
     let c = r.counters();
     told(c.frames, c.runts, c.checksums, c.giants, c.noise).wrapping_add(r.sink().0)
 }
 
+#[inline(never)]
 fn our_frames(s: &[u8]) -> u64 {
     let mut r = ours::Receiver::new();
     let mut sum = 0;
     let mut at = 0;
     while at < s.len() {
         if r.feed(&s[at..]) == Ok(1) {
-            sum += r.found[3];
+            sum += looked(&r.body[4..4 + r.found[3] as usize]);
         }
         at += r.found[0] as usize;
     }
@@ -127,19 +149,16 @@ fn our_frames(s: &[u8]) -> u64 {
     told(p[3], p[4], p[5], p[6], p[9]).wrapping_add(sum)
 }
 
-fn receiver_rows(rows: &mut Vec<Row>, ledger: &'static str, frames: &'static str, stream: Vec<u8>) {
-    let stream: &'static [u8] = Box::leak(stream.into_boxed_slice());
-    rows.push(Row {
-        name: ledger,
-        bytes: stream.len(),
-        rust: Box::new(move || rust_ledger(black_box(stream))),
-        ours: Box::new(move || our_ledger(black_box(stream))),
+/// The two rows of a stream: its ledger, and its frames handed out.
+fn receiver_rows(rows: &mut Rows, ledger: &'static str, frames: &'static str, stream: impl FnOnce() -> Vec<u8> + Copy + 'static) {
+    let kept = move || -> &'static [u8] { Box::leak(stream().into_boxed_slice()) };
+    rows.add(ledger, move || {
+        let s = kept();
+        (s.len(), Box::new(move || rust_ledger(black_box(s))), Box::new(move || our_ledger(black_box(s))))
     });
-    rows.push(Row {
-        name: frames,
-        bytes: stream.len(),
-        rust: Box::new(move || rust_frames(black_box(stream))),
-        ours: Box::new(move || our_frames(black_box(stream))),
+    rows.add(frames, move || {
+        let s = kept();
+        (s.len(), Box::new(move || rust_frames(black_box(s))), Box::new(move || our_frames(black_box(s))))
     });
 }
 
@@ -153,14 +172,19 @@ fn repeated(size: usize, mut one: impl FnMut() -> Vec<u8>) -> Vec<u8> {
 
 // ---- the check
 
-fn check_row(name: &'static str, size: usize, slice: usize) -> Row {
+fn check_row(size: usize, slice: usize) -> Row {
     let data: &'static [u8] = Box::leak(Rng::new(3).bytes(size).into_boxed_slice());
-    Row {
-        name,
-        bytes: size,
-        rust: Box::new(move || black_box(data).chunks(slice).map(|s| u64::from(oracle::crc::crc(s))).sum()),
-        ours: Box::new(move || black_box(data).chunks(slice).map(|s| u64::from(doors::crc(s))).sum()),
-    }
+    (size, Box::new(move || rust_checks(black_box(data), slice)), Box::new(move || our_checks(black_box(data), slice)))
+}
+
+#[inline(never)]
+fn rust_checks(data: &[u8], slice: usize) -> u64 {
+    data.chunks(slice).map(|s| u64::from(oracle::crc::crc(s))).sum()
+}
+
+#[inline(never)]
+fn our_checks(data: &[u8], slice: usize) -> u64 {
+    data.chunks(slice).map(|s| u64::from(doors::crc(s))).sum()
 }
 
 // ---- link and transport
@@ -196,6 +220,7 @@ impl transport::Sink for Told {
     }
 }
 
+#[inline(never)]
 fn rust_whole(s: &[u8]) -> u64 {
     let mut r = link::Receiver::new(transport::Receiver::new(Told::default()));
     r.extend_from_slice(s);
@@ -203,6 +228,7 @@ fn rust_whole(s: &[u8]) -> u64 {
     r.sink().sink().0.wrapping_add(c.receive_packets).wrapping_add(c.command_responses << 32)
 }
 
+#[inline(never)]
 fn our_whole(s: &[u8]) -> u64 {
     let mut r = ours::Receiver::new();
     let mut t = Box::new(doors::transport::Transport::new());
@@ -244,24 +270,35 @@ fn our_event(t: &mut doors::transport::Transport, address: u16, kind: u16, paylo
 
 // ---- encode
 
-/// Frames of a capture's mixture, encoded one by one: by the Rust into a new `Vec`, by ours into one lent buffer that is never cleared.
-fn encode_row(name: &'static str, frames: Vec<Plain>) -> Row {
-    let bytes = frames.iter().map(|f| f.payload.len() + 6).sum();
+/// Frames with payloads of `least` to `most` random bytes, encoded one by one: by the Rust into a new `Vec`, by ours into one lent buffer
+/// that is never cleared.
+fn encode_row(size: usize, least: usize, most: usize) -> Row {
+    let mut rng = Rng::of(2, "encode");
+    let mut frames = Vec::new();
+    let mut bytes = 0;
+    while bytes < size / 4 {
+        let n = rng.within(least, most);
+        frames.push(frame(&mut rng, n));
+        bytes += n + 6;
+    }
     let taken: Vec<Frame> = frames.iter().map(Plain::frame).collect();
     let mut out = [0; 519];
-    Row {
-        name,
-        bytes,
-        rust: Box::new(move || black_box(&taken).iter().map(|f| sum(&f.encode())).sum()),
-        ours: Box::new(move || {
-            let mut total = 0;
-            for f in black_box(&frames) {
-                let n = doors::encode(f.address >= 0x8000, f.address & 0x7fff, f.kind, &f.payload, &mut out).expect("room") as usize;
-                total += sum(&out[..n]);
-            }
-            total
-        }),
+    (bytes, Box::new(move || rust_encodes(black_box(&taken))), Box::new(move || our_encodes(black_box(&frames), &mut out)))
+}
+
+#[inline(never)]
+fn rust_encodes(frames: &[Frame]) -> u64 {
+    frames.iter().map(|f| sum(&f.encode())).sum()
+}
+
+#[inline(never)]
+fn our_encodes(frames: &[Plain], out: &mut [u8; 519]) -> u64 {
+    let mut total = 0;
+    for f in frames {
+        let n = doors::encode(f.address >= 0x8000, f.address & 0x7fff, f.kind, &f.payload, out).expect("room") as usize;
+        total += sum(&out[..n]);
     }
+    total
 }
 
 /// A look at what was written: its length and its ends.
@@ -269,54 +306,50 @@ fn sum(wire: &[u8]) -> u64 {
     wire.len() as u64 + u64::from(wire[wire.len() - 3])
 }
 
+/// Frames with payloads of `least` to `most` random bytes in a row, as the Rust encodes them.
+fn encoded(size: usize, least: usize, most: usize) -> Vec<u8> {
+    let mut rng = Rng::of(2, "frames");
+    repeated(size, || {
+        let n = rng.within(least, most);
+        frame(&mut rng, n).encode()
+    })
+}
+
+fn rows(size: usize) -> Rows {
+    let mut rows = Rows::default();
+    rows.add("crc, slices of 10 bytes", move || check_row(size, 10));
+    rows.add("crc, slices of 64 bytes", move || check_row(size, 64));
+    rows.add("crc, slices of 254 bytes", move || check_row(size, 254));
+    rows.add("encode, payloads of 0 to 14", move || encode_row(size, 0, 14));
+    rows.add("encode, payloads of 20 to 120", move || encode_row(size, 20, 120));
+    rows.add("encode, payloads of 194 to 250", move || encode_row(size, 194, 250));
+    rows.add("link and transport, capture: all events", move || {
+        let s: &'static [u8] = Box::leak(make::capture(1, size).into_boxed_slice());
+        (s.len(), Box::new(move || rust_whole(black_box(s))), Box::new(move || our_whole(black_box(s))))
+    });
+    receiver_rows(&mut rows, "receiver, capture: ledger", "receiver, capture: frames handed out", move || make::capture(1, size));
+    receiver_rows(&mut rows, "receiver, bodies of 6 to 20: ledger", "receiver, bodies of 6 to 20: frames", move || encoded(size, 0, 14));
+    receiver_rows(&mut rows, "receiver, bodies of 200 to 256: ledger", "receiver, bodies of 200 to 256: frames", move || encoded(size, 194, 250));
+    receiver_rows(&mut rows, "receiver, idle ff: ledger", "receiver, idle ff: frames", move || vec![0xff; size]);
+    receiver_rows(&mut rows, "receiver, noise: ledger", "receiver, noise: frames", move || Rng::of(2, "noise").bytes(size));
+    receiver_rows(&mut rows, "receiver, tails of data: ledger", "receiver, tails of data: frames", move || encoded(size, 4000, 4000));
+    receiver_rows(&mut rows, "receiver, tails of many pairs: ledger", "receiver, tails of many pairs: frames", move || {
+        let mut rng = Rng::of(2, "tails");
+        repeated(size, || make::units(&mut rng, 4000, false, &[0x7e, 0x08]))
+    });
+    rows
+}
+
 fn main() {
     let words: Vec<String> = std::env::args().skip(1).collect();
     let number = |i: usize, n: usize| words.get(i).map_or(n, |w| w.parse().expect("race [ROUNDS [MIB [NAME]]]"));
     let (rounds, size) = (number(0, 21), number(1, 16) << 20);
-    let mut rng = Rng::new(2);
-    let mut rows = vec![check_row("crc, slices of 64 bytes", size, 64), check_row("crc, slices of 254 bytes", size, 254)];
-    let frames = |rng: &mut Rng, a, b| {
-        let mut frames = Vec::new();
-        let mut bytes = 0;
-        while bytes < size / 4 {
-            let n = rng.within(a, b);
-            frames.push(frame(rng, n));
-            bytes += n + 6;
-        }
-        frames
-    };
-    rows.push(encode_row("encode, payloads of 0 to 14", frames(&mut rng, 0, 14)));
-    rows.push(encode_row("encode, payloads of 20 to 120", frames(&mut rng, 20, 120)));
-    rows.push(encode_row("encode, payloads of 194 to 250", frames(&mut rng, 194, 250)));
-    let capture: &'static [u8] = Box::leak(make::capture(1, size).into_boxed_slice());
-    rows.push(Row {
-        name: "link and transport, capture: all events",
-        bytes: capture.len(),
-        rust: Box::new(move || rust_whole(black_box(capture))),
-        ours: Box::new(move || our_whole(black_box(capture))),
-    });
-    receiver_rows(&mut rows, "receiver, capture: ledger", "receiver, capture: frames handed out", capture.to_vec());
-    let short = repeated(size, || {
-        let n = rng.within(0, 14);
-        frame(&mut rng, n).encode()
-    });
-    receiver_rows(&mut rows, "receiver, bodies of 6 to 20: ledger", "receiver, bodies of 6 to 20: frames", short);
-    let long = repeated(size, || {
-        let n = rng.within(194, 250);
-        frame(&mut rng, n).encode()
-    });
-    receiver_rows(&mut rows, "receiver, bodies of 200 to 256: ledger", "receiver, bodies of 200 to 256: frames", long);
-    receiver_rows(&mut rows, "receiver, idle ff: ledger", "receiver, idle ff: frames", vec![0xff; size]);
-    receiver_rows(&mut rows, "receiver, noise: ledger", "receiver, noise: frames", rng.bytes(size));
-    let tails = repeated(size, || make::units(&mut rng, 4000, false, &[0x7e, 0x08]));
-    receiver_rows(&mut rows, "receiver, overlong tails: ledger", "receiver, overlong tails: frames", tails);
-
     println!("{rounds} rounds by turns; {} MiB a row; ns a byte, then MB/s at the best; below 1 in the last two columns ours is faster", size >> 20);
     println!("| row | Rust best | median | MB/s | ours best | median | MB/s | best/best | median/median |");
     println!("|---|---|---|---|---|---|---|---|---|");
-    for row in &mut rows {
-        if words.get(2).map_or(true, |name| row.name.contains(name.as_str())) {
-            race(row, rounds);
+    for (name, row) in rows(size).0 {
+        if words.get(2).map_or(true, |part| name.contains(part.as_str())) {
+            race(name, row(), rounds);
         }
     }
 }

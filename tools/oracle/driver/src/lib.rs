@@ -1,6 +1,7 @@
 //! The Rust and the proved side, each behind plain functions over bytes, and what makes their inputs.
 pub mod compare;
 pub mod doors;
+pub mod log;
 pub mod make;
 pub mod oracle;
 pub mod rng;

@@ -20,8 +20,12 @@ pub fn quiet() {
 }
 
 pub fn say(line: &str) {
+    write(format!("{line}\n").as_bytes());
+}
+
+pub fn write(bytes: &[u8]) {
     match OUT.get() {
-        Some(out) => writeln!(out.lock().expect("one thread"), "{line}").expect("written"),
-        None => println!("{line}"),
+        Some(out) => out.lock().expect("one thread").write_all(bytes).expect("written"),
+        None => std::io::stdout().write_all(bytes).expect("written"),
     }
 }

@@ -19,7 +19,7 @@ pub fn check(run: &mut Run) {
     }
     let mut rng = run.part("check");
     for len in 0..=600 {
-        for _ in 0..20 * run.scale {
+        for _ in 0..run.times(20) {
             let s = rng.bytes(len);
             run.same(name, &s, &rust, &ours);
             n += 1;
@@ -67,7 +67,7 @@ pub fn escape(run: &mut Run) {
     let mut n = 0;
     let mut inputs: Vec<Vec<u8>> = (0..=255).map(|b| vec![b]).collect();
     inputs.push(Vec::new());
-    for _ in 0..20_000 * run.scale {
+    for _ in 0..run.times(20_000) {
         let len = rng.within(0, 300);
         inputs.push(if rng.one_in(2) { rng.bytes(len) } else { make::interesting_bytes(&mut rng, len) });
     }
@@ -170,7 +170,7 @@ pub fn text(run: &mut Run) {
 
     let name = "text: random characters of every length, whole and damaged, to 250 bytes";
     let mut rng = run.part("text");
-    let count = 50_000 * run.scale;
+    let count = run.times(50_000);
     for _ in 0..count {
         let mut s = String::new();
         let most = rng.within(0, 250);
@@ -222,7 +222,7 @@ pub fn encode(run: &mut Run) {
     let mut rng = run.part("encode");
     let mut n = 0;
     for len in 0..=260 {
-        for _ in 0..60 * run.scale {
+        for _ in 0..run.times(60) {
             let f = make::frame_of(&mut rng, len);
             let from = rng.one_in(2);
             let id = if rng.one_in(12) { f.address } else { f.address & 0x7fff };
@@ -231,6 +231,24 @@ pub fn encode(run: &mut Run) {
             let before = rng.bytes(room);
             run.same(name, &f.payload, &|s| encoded(from, id, f.kind, s, &before), &|s| encode_into(from, id, f.kind, s, &before));
             n += 1;
+        }
+    }
+    run.done(name, n);
+
+    let name = "encode: payloads of every length to 72 with each byte that is escaped at every place, and beside another";
+    let mut n = 0;
+    for len in 1..=72 {
+        for at in 0..len {
+            for b in [0x7e, 0x23, 0x24, 0x25, 0xa3, 0xa4, 0xa5] {
+                let mut payload = vec![0x41; len];
+                payload[at] = b;
+                let before = rng.bytes(160);
+                for other in [at, rng.below(len)] {
+                    payload[other] = b;
+                    run.same(name, &payload, &|s| encoded(true, 7, 0x0149, s, &before), &|s| encode_into(true, 7, 0x0149, s, &before));
+                    n += 1;
+                }
+            }
         }
     }
     run.done(name, n);

@@ -78,16 +78,10 @@ fn every(run: &Run, name: &str, prefix: &[u8], alphabet: &[u8], most: usize) -> 
     n
 }
 
-pub fn exhaustive(run: &mut Run) {
-    let name = "receiver: every stream of 0 to 6 bytes of 00 ff 7e 07 08 01 41 24";
-    let alphabet = [0x00, 0xff, 0x7e, 0x07, 0x08, 0x01, 0x41, 0x24];
-    let n = every(run, name, &[], &alphabet, 6);
-    run.done(name, n);
-
-    let name = "receiver: every stream of 0 to 4 of these bytes after each of 16 beginnings (open frames of 0 to 257 units, tails, noise)";
-    let mut n = 0;
+/// Streams that lead a fresh receiver to each state, with bodies empty, at each limit and next to it.
+fn beginnings() -> [Vec<u8>; 16] {
     let opened = |units: usize, more: &[u8]| [&[0x7e, 0x07][..], &vec![0x00; units], more].concat();
-    let beginnings = [
+    [
         vec![0x41],
         vec![0x41, 0x7e],
         opened(0, &[]),
@@ -104,8 +98,19 @@ pub fn exhaustive(run: &mut Run) {
         opened(256, &[0x41]),
         opened(256, &[0x41, 0x7e]),
         opened(256, &[0x7e, 0x01]),
-    ];
-    for beginning in &beginnings {
+    ]
+}
+
+pub fn exhaustive(run: &mut Run) {
+    let alphabet = [0x00, 0xff, 0x7e, 0x07, 0x08, 0x01, 0x41, 0x24];
+    let most = if run.scale < 1.0 { 5 } else { 7 };
+    let name = &format!("receiver: every stream of 0 to {most} bytes of 00 ff 7e 07 08 01 41 24");
+    let n = every(run, name, &[], &alphabet, most);
+    run.done(name, n);
+
+    let name = "receiver: every stream of 0 to 4 of these bytes after each of 16 beginnings (open frames of 0 to 257 units, tails, noise)";
+    let mut n = 0;
+    for beginning in &beginnings() {
         n += every(run, name, beginning, &alphabet, 4);
     }
     run.done(name, n);
@@ -113,12 +118,40 @@ pub fn exhaustive(run: &mut Run) {
     let name = "receiver: every byte, and every pair, in each of those states";
     let all: Vec<u8> = (0..=255).collect();
     let mut n = 0;
-    for beginning in &beginnings {
+    for beginning in &beginnings() {
         n += every(run, name, beginning, &all, 1);
         for b in 0..=255 {
             hold(run, name, &[&beginning[..], &[0x7e, b]].concat(), &[], &[]);
             hold(run, name, &[&beginning[..], &[b, 0x41]].concat(), &[], &[]);
             n += 2;
+        }
+    }
+    run.done(name, n);
+}
+
+/// Runs of bytes of one sort, which the proved side takes many at a time.
+pub fn runs(run: &mut Run) {
+    let most = if run.scale < 1.0 { 18 } else { 72 };
+    let name = &format!("receiver: runs of 0 to {most} bytes of each sort in each of 17 states, ended in 24 ways, whole and cut within");
+    let mut rng = run.part("runs");
+    let sorts: [&[u8]; 6] = [&[0x00], &[0xff], &[0x00, 0xff, 0xff], &[0x41], &[0x41, 0x00, 0x24], &[0x7f, 0x80, 0xfe, 0x01, 0x7d]];
+    let mut ends: Vec<Vec<u8>> = make::INTERESTING.iter().map(|b| vec![*b]).collect();
+    ends.extend([vec![0x7e, 0x07], vec![0x7e, 0x08], vec![0x7e, 0x01], vec![]]);
+    let mut n = 0;
+    for beginning in beginnings().iter().chain([&vec![]]) {
+        for sort in sorts {
+            for len in 0..=most {
+                for end in &ends {
+                    let mut stream = beginning.clone();
+                    stream.extend(sort.iter().cycle().take(len));
+                    stream.extend(end);
+                    stream.extend(sort.iter().cycle().take(rng.below(20)));
+                    stream.extend([0x7e, 0x08]);
+                    let cuts = if rng.one_in(2) { Vec::new() } else { vec![rng.below(stream.len()), stream.len() - 1] };
+                    hold(run, name, &stream, &cuts, &[]);
+                    n += 1;
+                }
+            }
         }
     }
     run.done(name, n);
@@ -132,7 +165,7 @@ pub fn limits(run: &mut Run) {
         [&[0x7e, 0x08], &[0x7e, 0x07], &[0x7e, 0x09], &[0x08], &[0x07], &[0x7e], &[], &[0x7e, 0x08, 0x7e, 0x07, 0x41, 0x7e, 0x08]];
     for units in 0..=270 {
         let times = if (250..=260).contains(&units) || units < 10 { 12 } else { 2 };
-        for _ in 0..times * run.scale {
+        for _ in 0..run.times(times) {
             for after in afters {
                 for escaped in [false, true] {
                     let stream = make::units(&mut rng, units, escaped, after);
@@ -154,7 +187,7 @@ pub fn limits(run: &mut Run) {
 pub fn random(run: &mut Run) {
     let name = "receiver: random streams (noise, framing bytes, frames in a row, damaged copies) in random cuts";
     let mut rng = run.part("random");
-    let count = 150_000 * run.scale;
+    let count = run.times(150_000);
     for _ in 0..count {
         let stream = make::stream(&mut rng);
         let cuts = make::cuts(&mut rng, stream.len());
@@ -164,7 +197,7 @@ pub fn random(run: &mut Run) {
 
     let name = "receiver: the same with counters reset at random places";
     let mut rng = run.part("resets");
-    let count = 15_000 * run.scale;
+    let count = run.times(15_000);
     for _ in 0..count {
         let stream = make::stream(&mut rng);
         let cuts = make::cuts(&mut rng, stream.len());
@@ -175,7 +208,7 @@ pub fn random(run: &mut Run) {
 
     let name = "receiver: the same by single steps, and as the ledger of one slice";
     let mut rng = run.part("steps");
-    let count = 15_000 * run.scale;
+    let count = run.times(15_000);
     for _ in 0..count {
         let stream = make::stream(&mut rng);
         run.same(name, &stream, &|s| hear(s, &[]), &stepped);
@@ -192,11 +225,12 @@ fn placed(heard: &Heard) -> Vec<u64> {
 }
 
 pub fn captures(run: &mut Run) {
-    let name = "receiver: captures of 256 KiB that look like a line, whole and damaged, in random cuts";
+    let name = "receiver: captures of 256 KiB that look like a line, whole and damaged, and one of 4 MiB, in random cuts";
     let mut rng = run.part("captures");
-    let count = 6 * run.scale as u64;
-    for k in 0..count {
-        let mut stream = make::capture(run.seed.wrapping_mul(1000) + k, 256 * 1024);
+    let count = run.times(6) as u64;
+    for k in 0..=count {
+        let size = if k == 0 { run.times(4096) } else { 256 };
+        let mut stream = make::capture(run.seed.wrapping_mul(1000) + k, size * 1024);
         if k % 2 == 1 {
             for _ in 0..200 {
                 let at = rng.below(stream.len());
@@ -208,8 +242,11 @@ pub fn captures(run: &mut Run) {
         if rust != ours {
             hold(run, name, &stream, &cuts, &[]);
         }
+        if placed(&rust) != doors::ledger(&stream) {
+            run.differ(name, "the ledger of the whole slice");
+        }
     }
-    run.done(name, count);
+    run.done(name, count + 1);
 }
 
 /// Bytes that lead a fresh receiver to each state outside an open frame.
@@ -218,7 +255,7 @@ const OUTSIDE: [(u64, &[u8]); 3] = [(0, &[]), (1, &[0x41]), (2, &[0x7e])];
 pub fn made_up(run: &mut Run) {
     let name = "receiver: made-up states (a stale body outside a frame, tallies about to wrap)";
     let mut rng = run.part("made up");
-    let count = 15_000 * run.scale;
+    let count = run.times(15_000);
     for _ in 0..count {
         let (state, prefix) = rng.pick(&OUTSIDE);
         let stream = make::stream(&mut rng);

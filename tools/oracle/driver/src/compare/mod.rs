@@ -10,11 +10,16 @@ pub mod transport;
 
 pub struct Run {
     pub seed: u64,
-    pub scale: usize,
+    pub scale: f64,
     pub cases: u64,
 }
 
 impl Run {
+    /// How many of a part's random inputs are tried: its own number times the scale, and one at least.
+    pub fn times(&self, n: usize) -> usize {
+        ((n as f64 * self.scale) as usize).max(1)
+    }
+
     /// Numbers of its own for each part.
     pub fn part(&self, name: &str) -> Rng {
         Rng::of(self.seed, name)

@@ -79,7 +79,7 @@ pub fn packets(run: &mut Run) {
             n += 1;
         }
     }
-    for _ in 0..100_000 * run.scale {
+    for _ in 0..run.times(100_000) {
         let area = if rng.one_in(5) { make::interesting_bytes(&mut rng, 60) } else { area(&mut rng) };
         run.same(name, &area, &walked, &our_walk);
         n += 1;
@@ -148,7 +148,7 @@ pub fn responses(run: &mut Run) {
     let mut n = 0;
     for status in 0..=255 {
         for len in 0..=40 {
-            for _ in 0..4 * run.scale {
+            for _ in 0..run.times(4) {
                 let mut payload = rng.bytes(len);
                 if len > 1 {
                     payload[1] = status;

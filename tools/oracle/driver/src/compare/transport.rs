@@ -11,6 +11,12 @@ use crate::{make, show};
 /// Refusals that 01 adds: the Rust holds any number of entries and any payload, so a run is compared up to the first of them.
 const ADDED: [u64; 4] = [25, 26, 27, 32];
 
+/// How often each answer was given, by the door's number for it or 01's for a refusal.
+type Seen = [u64; 40];
+
+/// The answers that random runs have to reach: counted, each event, a command kept, and each refusal of a frame that the link hands on.
+const REACHED: [usize; 21] = [0, 1, 2, 3, 4, 5, 6, 8, 9, 20, 21, 22, 23, 24, 25, 26, 27, 28, 29, 30, 31];
+
 /// How a run of frames ended: at its end, or at an added refusal after so many frames.
 enum Ended {
     Same,
@@ -23,7 +29,7 @@ fn told(frames: &[Plain]) -> String {
 }
 
 /// Both sides through the same frames, or what differs and after how many.
-fn through(frames: &[Plain]) -> Result<Ended, (usize, String)> {
+fn through(frames: &[Plain], seen: &mut Seen) -> Result<Ended, (usize, String)> {
     let mut rust = Transport::new();
     let mut ours = Box::new(doors::Transport::new());
     for (i, f) in frames.iter().enumerate() {
@@ -36,6 +42,7 @@ fn through(frames: &[Plain]) -> Result<Ended, (usize, String)> {
         }
         let before = rust.numbers();
         let answer = ours.frame(f);
+        seen[answer.unwrap_or_else(|number| number) as usize] += 1;
         if let Err(number) = answer {
             if ADDED.contains(&number) {
                 return full(&rust, &ours, f, number).map(|()| Ended::Added(number, i)).map_err(|what| (i, what));
@@ -81,8 +88,8 @@ fn full(rust: &Transport, ours: &doors::Transport, f: &Plain, number: u64) -> Re
     }
 }
 
-fn hold(run: &Run, name: &str, frames: &[Plain]) -> Ended {
-    match through(frames) {
+fn hold(run: &Run, name: &str, frames: &[Plain], seen: &mut Seen) -> Ended {
+    match through(frames, seen) {
         Ok(ended) => ended,
         Err((i, _)) => {
             // leave frames out as long as a difference stays
@@ -91,13 +98,13 @@ fn hold(run: &Run, name: &str, frames: &[Plain]) -> Ended {
             while k < best.len() {
                 let mut less = best.clone();
                 less.remove(k);
-                if through(&less).is_err() {
+                if through(&less, seen).is_err() {
                     best = less;
                 } else {
                     k += 1;
                 }
             }
-            let what = match through(&best) {
+            let what = match through(&best, seen) {
                 Err((_, what)) => what,
                 Ok(_) => "gone when shrunk".into(),
             };
@@ -189,14 +196,15 @@ pub fn steps(run: &mut Run) {
     let mut rng = run.part("transport");
     let mut frames_in_all = 0;
     let mut added = [0; 4];
-    for _ in 0..4_000 * run.scale {
+    let mut seen: Seen = [0; 40];
+    for _ in 0..run.times(40_000) {
         let full = rng.one_in(10);
         let count = if full { rng.pick(&[4, 31, 32, 33, 34, 60]) } else { rng.pick(&[1, 2, 4, 8, 40]) };
         let gateways: Vec<u16> = (0..count).map(|_| if rng.one_in(9) { rng.pick(&[0, 0x7fff]) } else { rng.word() & 0x7fff }).collect();
         let few = rng.pick(&[1, 3, 8, 256]);
         let most = if full { 600 } else { 150 };
         let frames: Vec<Plain> = (0..rng.within(1, most)).map(|_| frame(&mut rng, &gateways, few, full)).collect();
-        frames_in_all += match hold(run, name, &frames) {
+        frames_in_all += match hold(run, name, &frames, &mut seen) {
             Ended::Same => frames.len() as u64,
             Ended::Added(n, before) => {
                 added[ADDED.iter().position(|a| *a == n).unwrap()] += 1;
@@ -206,6 +214,12 @@ pub fn steps(run: &mut Run) {
     }
     run.done(name, frames_in_all);
     say(&format!("           (frames; {} runs ended at 25, {} at 26, {} at 27, {} at 32, which 01 adds)", added[0], added[1], added[2], added[3]));
+    match REACHED.iter().find(|n| seen[**n] == 0) {
+        Some(never) if run.scale >= 1.0 => run.differ(name, &format!("no frame was answered by {never}")),
+        _ => {}
+    }
+    let told: Vec<String> = REACHED[9..].iter().map(|n| format!("{n}: {}", seen[*n])).collect();
+    say(&format!("           (refusals among them: {})", told.join(", ")));
 
     let name = "transport: every type from every direction, payloads of every length to 251";
     let mut n = 0;
@@ -218,8 +232,8 @@ pub fn steps(run: &mut Run) {
                 }
                 let asked = Plain { address: 7, kind: 0x0148, payload: vec![0, 0, 0x12, 0x05, 0] };
                 let sent = Plain { address: 7, kind: 0x0b0f, payload: vec![0, 0, 0, 1, payload.get(4).copied().unwrap_or(0)] };
-                hold(run, name, &[asked, sent, Plain { address: 7 | from, kind, payload: payload.clone() }]);
-                hold(run, name, &[Plain { address: from, kind, payload }]);
+                hold(run, name, &[asked, sent, Plain { address: 7 | from, kind, payload: payload.clone() }], &mut seen);
+                hold(run, name, &[Plain { address: from, kind, payload }], &mut seen);
                 n += 2;
             }
         }
@@ -230,7 +244,7 @@ pub fn steps(run: &mut Run) {
     let mut n = 0;
     for kind in 0..=u16::MAX {
         for from in [0, 0x8000] {
-            hold(run, name, &[Plain { address: 0x1201 | from, kind, payload: vec![0x41; 5] }]);
+            hold(run, name, &[Plain { address: 0x1201 | from, kind, payload: vec![0x41; 5] }], &mut seen);
             n += 1;
         }
     }
@@ -270,12 +284,28 @@ pub fn refused(run: &mut Run) {
     run.done(name, n);
 }
 
+/// The frames of a stream by the proved link receiver.
+fn own_frames(stream: &[u8]) -> Vec<Plain> {
+    let mut frames = Vec::new();
+    let mut r = Receiver::new();
+    let mut at = 0;
+    while at < stream.len() {
+        if r.feed(&stream[at..]) == Ok(1) {
+            frames.push(r.frame());
+        }
+        at += r.found[0] as usize;
+    }
+    frames
+}
+
 pub fn captures(run: &mut Run) {
-    let name = "link and transport: captures of 256 KiB, whole and damaged, to events, counters and tables";
+    let name = "link and transport: frames of captures of 256 KiB, whole and damaged, and of one of 4 MiB, to events, counters and tables";
     let mut rng = run.part("transport captures");
-    let count = 6 * run.scale as u64;
-    for k in 0..count {
-        let mut stream = make::capture(run.seed.wrapping_mul(2000) + k, 256 * 1024);
+    let mut n = 0;
+    let mut seen: Seen = [0; 40];
+    for k in 0..=run.times(6) as u64 {
+        let size = if k == 0 { run.times(4096) } else { 256 };
+        let mut stream = make::capture(run.seed.wrapping_mul(2000) + k, size * 1024);
         if k % 2 == 1 {
             for _ in 0..300 {
                 let at = rng.below(stream.len());
@@ -284,19 +314,16 @@ pub fn captures(run: &mut Run) {
         }
         // frames by each side's own receiver
         let frames = hear(&stream, &[]).frames;
-        let mut own = Vec::new();
-        let mut r = Receiver::new();
-        let mut at = 0;
-        while at < stream.len() {
-            if r.feed(&stream[at..]) == Ok(1) {
-                own.push(r.frame());
-            }
-            at += r.found[0] as usize;
-        }
-        if frames != own {
+        if frames != own_frames(&stream) {
             run.differ(name, "the frames differ");
         }
-        hold(run, name, &frames);
+        n += match hold(run, name, &frames, &mut seen) {
+            Ended::Same => frames.len() as u64,
+            Ended::Added(number, before) => {
+                say(&format!("           (capture {k} is compared to its frame {before}, where {number} is due)"));
+                before as u64
+            }
+        };
     }
-    run.done(name, count);
+    run.done(name, n);
 }

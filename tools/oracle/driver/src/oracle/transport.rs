@@ -146,6 +146,14 @@ impl Transport {
         counters(self.0.counters())
     }
 
+    /// The 33 counters by the source's names, as its `Debug` text has them.
+    pub fn named_counters(&self) -> Vec<(String, u64)> {
+        let text = format!("{:?}", self.0.counters());
+        let fields = text.trim_start_matches("Counters { ").trim_end_matches(" }");
+        let pair = |field: &str| field.split_once(": ").map(|(name, n)| (name.to_string(), n.parse().expect("a number"))).expect("a field");
+        fields.split(", ").map(pair).collect()
+    }
+
     /// The events since the last call.
     pub fn events(&mut self) -> Vec<Event> {
         std::mem::take(&mut self.0.sink_mut().0)
