@@ -164,6 +164,8 @@ use Rattle.event_record.proofs.packet.Kinds as event-record·packet·kinds
 use Rattle.event_record.proofs.packet.Reads as event-record·packet·reads
 use Rattle.event_record.proofs.command.Kinds as event-record·command·kinds
 use Rattle.event_record.proofs.command.Reads as event-record·command·reads
+use Rattle.records.proofs.write.Kinds as records·write·kinds
+use Rattle.records.proofs.write.Reads as records·write·reads
 use Rattle.runs.proofs.is.Kinds as runs·is·kinds
 use Rattle.runs.proofs.is.Reads as runs·is·reads
 use Rattle.runs.proofs.run.Kinds as runs·run·kinds
@@ -404,6 +406,9 @@ event-record·packet κs a x y u v p q = (handed-apart x y (p .0 ∙ sym (q .0))
 
 pub event-record·command : Determined 3 event-record·command·kinds.ps event-record·command·kinds.r event-record·command·reads.Learnt
 event-record·command κs a x y u v p q = (handed-apart x y (p .0 ∙ sym (q .0)), cc)
+
+pub records·write : Determined 3 records·write·kinds.ps records·write·kinds.r records·write·reads.Learnt
+records·write κs a x y u v p q = (handed-apart x y (p .0 ∙ sym (q .0)), ap (λ (z : List ℕ). (at-last (a .0) z, (a .1 .0, (a .1 .1 .0, (a .1 .1 .1 .0, (a .1 .1 .1 .1 .0, tt)))))) (p .1 ∙ sym (q .1)))
 
 pub runs·is : Determined 0 runs·is·kinds.ps runs·is·kinds.r runs·is·reads.Learnt
 runs·is κs a x y u v p q = (p ∙ sym q, refl)
