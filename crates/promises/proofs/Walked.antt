@@ -13,11 +13,13 @@ use denote.Ref.{RefT, now, at-last}
 use Rattle.promises.specs.Determined.{Says, DeterminedBy, SaidBy}
 use Rattle.crc.specs.Crc.{crcOf}
 use Rattle.link_receive.specs.declared.Stepped.{Stepped}
+use Rattle.link_receive.specs.declared.Fed.{Fed}
 use Rattle.link_receive.specs.declared.Tallies.{Tallies}
 use Rattle.network.specs.declared.received_packets.ReceivedPackets.{ReceivedPackets}
 use Rattle.network.specs.Walker.{Next}
-use Rattle.lent.specs.Lent.{Pushed}
+use Rattle.lent.specs.Lent.{Pushed, FedWith}
 use Rattle.lent.proofs.push_u8 as push-u8
+use Rattle.lent.proofs.feed as feed
 use Rattle.network.proofs.received_packets.ReceivedPackets.new as new
 use Rattle.network.proofs.received_packets.ReceivedPackets.next as next
 
@@ -31,6 +33,17 @@ pub lent·push-u8 : DeterminedBy push-u8.ended push-u8-says
 lent·push-u8 κs a x y u v p q =
     let s : x ≡ y = p .exactly ∙ sym (q .exactly) in
     (s, ap (λ (t : Tallies). (at-last (a .0) t, (a .1 .0, (a .1 .1 .0, tt)))) (p .lent ∙ ap (λ (z : Stepped). z .next .tallies) s ∙ sym (q .lent)))
+
+abbrev feed-says : Says feed.ended
+feed-says κs a x e = FedWith crcOf (now (a .0)) (a .1 .0) (now (a .1 .1 .0)) x (now (e .0))
+
+pub feed-said : {M : Type 1} (𝓤 : URA M) (H : Heap 𝓤) (A : Atoms 𝓤) (mem : Memory → SProp 𝓤) (run : Routine → Fun 𝓤) → SaidBy 𝓤 feed.ended (feed.clauses 𝓤 H A mem run) feed-says
+feed-said 𝓤 H A mem run κs a g x e = refl
+
+pub lent·feed : DeterminedBy feed.ended feed-says
+lent·feed κs a x y u v p q =
+    let s : x ≡ y = p .exactly ∙ sym (q .exactly) in
+    (s, ap (λ (t : Tallies). (at-last (a .0) t, (a .1 .0, (a .1 .1 .0, tt)))) (p .lent ∙ ap (λ (z : Fed). z .next .tallies) s ∙ sym (q .lent)))
 
 abbrev new-says : Says new.ended
 new-says κs a x e = (x .area ≡ a .0) × (x .at ≡ 0)
