@@ -21,7 +21,7 @@ use Rattle.event_record.specs.Handed.{framedHanded, recordHanded, recordBytes, 
 use Rattle.event_record.proofs.Written.{length-framed}
 use Rattle.event_record.proofs.Fit.{fits-counter}
 use Rattle.transport_receiver.specs.Step.{slot-counter}
-use Rattle.records.specs.Records.{Entry, entry, recordsOf, recordsIn, bytesOf, recordsHanded, recordsBytes}
+use Rattle.records.specs.Records.{Entry, entry, recordsOf, recordsIn, bytesOf, anyOver, anyUnsound, recordsHanded, recordsBytes}
 use Rattle.records.specs.Answers.{saidOf, eventSaid, eventIn, roomAfter}
 use Rattle.transport_receiver.specs.declared.Answer.{Answer}
 use Rattle.records.specs.declared.Said.{Said}
@@ -93,6 +93,17 @@ module _ (xs : List Entry) (out : List ℕ) where
 
   pub writes : (h : Handed ℕ) → recordsHanded xs (length out) ≡ h → Writes h (laidIf h (bytesOf written xs) out)
   writes h e = (sym e, ap (λ (x : Handed ℕ). laidIf x (bytesOf written xs) out) (sym e))
+
+-- what is handed back as written fits in the room
+pub handed-within : (xs : List Entry) (room n : ℕ) → recordsHanded xs room ≡ value n → n ≤ room
+unfolding recordsHanded
+handed-within xs room n = go (anyOver xs) (anyUnsound xs) (ltb room (length (bytesOf written xs))) refl
+  where
+    go : (a b c : Bool) → ltb room (length (bytesOf written xs)) ≡ c → cond a (refused 13) (cond b (refused 41) (cond c (refused 40) (value (length (bytesOf written xs))))) ≡ value n → n ≤ room
+    go true b c e f = let z : _≡_ {A = ℕ} 0 1 = cc in absurd (omega arith)
+    go false true c e f = let z : _≡_ {A = ℕ} 0 1 = cc in absurd (omega arith)
+    go false false true e f = let z : _≡_ {A = ℕ} 0 1 = cc in absurd (omega arith)
+    go false false false e f = let m : length (bytesOf written xs) ≡ n = cc in omega (arith, ltb-false room (length (bytesOf written xs)) e)
 
 -- no record: nothing is written
 pub writes-none : (out : List ℕ) → Writes [] out (value 0) out

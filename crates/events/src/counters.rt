@@ -1,0 +1,80 @@
+// The 33 transport counters, one a line, under the source's names and in its order.
+use crate::print_line;
+use transport_receiver::counters::*;
+
+fn print_first(c: &[u64; 33]) {
+    print_line(b"unhandled_frame_type ", c[UNHANDLED_FRAME_TYPE]);
+    print_line(b"invalid_receive_request ", c[INVALID_RECEIVE_REQUEST]);
+    print_line(b"receive_requests ", c[RECEIVE_REQUESTS]);
+    print_line(b"invalid_receive_responses ", c[INVALID_RECEIVE_RESPONSES]);
+    print_line(
+        b"receive_response_from_unknown_gateway ",
+        c[RECEIVE_RESPONSE_FROM_UNKNOWN_GATEWAY],
+    );
+    print_line(b"receive_responses ", c[RECEIVE_RESPONSES]);
+    print_line(b"receive_packets ", c[RECEIVE_PACKETS]);
+    print_line(b"receive_packet_too_short ", c[RECEIVE_PACKET_TOO_SHORT]);
+    print_line(b"invalid_command_requests ", c[INVALID_COMMAND_REQUESTS]);
+    print_line(
+        b"retransmitted_command_requests ",
+        c[RETRANSMITTED_COMMAND_REQUESTS],
+    );
+    print_line(b"command_requests ", c[COMMAND_REQUESTS]);
+    print_line(b"invalid_command_responses ", c[INVALID_COMMAND_RESPONSES]);
+    print_line(
+        b"retransmitted_command_responses ",
+        c[RETRANSMITTED_COMMAND_RESPONSES],
+    );
+    print_line(b"command_responses ", c[COMMAND_RESPONSES]);
+    print_line(b"ping_requests ", c[PING_REQUESTS]);
+    print_line(b"ping_responses ", c[PING_RESPONSES]);
+}
+
+fn print_others(c: &[u64; 33]) {
+    print_line(
+        b"enumeration_start_requests ",
+        c[ENUMERATION_START_REQUESTS],
+    );
+    print_line(
+        b"invalid_enumeration_start_request ",
+        c[INVALID_ENUMERATION_START_REQUEST],
+    );
+    print_line(
+        b"enumeration_start_responses ",
+        c[ENUMERATION_START_RESPONSES],
+    );
+    print_line(b"enumeration_requests ", c[ENUMERATION_REQUESTS]);
+    print_line(b"enumeration_responses ", c[ENUMERATION_RESPONSES]);
+    print_line(
+        b"invalid_enumeration_responses ",
+        c[INVALID_ENUMERATION_RESPONSES],
+    );
+    print_line(b"version_requests ", c[VERSION_REQUESTS]);
+    print_line(b"version_responses ", c[VERSION_RESPONSES]);
+    print_line(b"invalid_version_responses ", c[INVALID_VERSION_RESPONSES]);
+    print_line(b"enumeration_end_requests ", c[ENUMERATION_END_REQUESTS]);
+    print_line(b"enumeration_end_responses ", c[ENUMERATION_END_RESPONSES]);
+    print_line(
+        b"invalid_enumeration_end_responses ",
+        c[INVALID_ENUMERATION_END_RESPONSES],
+    );
+    print_line(
+        b"assign_gateway_id_requests ",
+        c[ASSIGN_GATEWAY_ID_REQUESTS],
+    );
+    print_line(
+        b"assign_gateway_id_responses ",
+        c[ASSIGN_GATEWAY_ID_RESPONSES],
+    );
+    print_line(b"identify_requests ", c[IDENTIFY_REQUESTS]);
+    print_line(b"identify_responses ", c[IDENTIFY_RESPONSES]);
+    print_line(
+        b"invalid_identify_responses ",
+        c[INVALID_IDENTIFY_RESPONSES],
+    );
+}
+
+pub fn print_counters(c: &[u64; 33]) {
+    print_first(c);
+    print_others(c);
+}
