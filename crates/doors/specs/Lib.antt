@@ -4,3 +4,4 @@ pub mod Packets
 pub mod Receivers
 pub mod Dispatch
 pub mod Slots
+pub mod Nodes

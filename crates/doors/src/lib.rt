@@ -15,6 +15,7 @@ ghost use Rattle.doors.specs.Numbered.{numbered};
 ghost use Rattle.doors.specs.Addresses.{directed, toward};
 
 pub mod dispatch;
+pub mod nodes;
 pub mod payloads;
 pub mod receiver;
 pub mod slots;

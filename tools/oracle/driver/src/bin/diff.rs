@@ -27,6 +27,7 @@ fn main() {
         payloads::numbers(&mut run);
         payloads::responses(&mut run);
         payloads::slots(&mut run);
+        payloads::nodes(&mut run);
     }
     if part("link") {
         link::exhaustive(&mut run);

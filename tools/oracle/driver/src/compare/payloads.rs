@@ -1,10 +1,10 @@
-//! Packet areas, status words and packet numbers.
+//! Packet areas and headers, status words, packet numbers, slot counters, node IDs and the gateways that payloads name.
 use super::Run;
 use crate::rng::Rng;
 use crate::{doors, make};
-use taptap::gateway::transport::{InvalidReceiveResponse, ReceiveResponse};
-use taptap::pv::link::{SlotCounter, SlotEpoch, SlotNumber};
-use taptap::pv::network::ReceivedPackets;
+use taptap::gateway::transport::{EnumerationStartRequest, IdentifyResponse, InvalidReceiveResponse, ReceiveResponse};
+use taptap::pv::link::{LongAddress, SlotCounter, SlotEpoch, SlotNumber, DSN};
+use taptap::pv::network::{NodeAddress, NodeID, ReceivedPackets};
 
 /// Where each packet's data starts and ends by the Rust's own walk, whether the area ends too short, and the two counts.
 fn walked(area: &[u8]) -> (Vec<(usize, usize)>, [u64; 2]) {
@@ -216,4 +216,59 @@ pub fn slots(run: &mut Run) {
         }
     }
     run.done(name, n);
+}
+
+pub fn nodes(run: &mut Run) {
+    let name = "node IDs, their addresses and successors, and the gateways that payloads name: every 16-bit number";
+    let number = |id: NodeID| NodeAddress::from(id).0.get();
+    let mut n = 0;
+    for value in 0..=u16::MAX {
+        let node: Option<NodeID> = NodeAddress::from(value).into();
+        let made = NodeID::try_from(value).ok();
+        let rust = (node.map(number), NodeAddress::from(made).0.get(), made.and_then(|id| id.successor()).map(number));
+        let ours = (doors::node(value), doors::node_address(value), doors::successor(value));
+        if rust != ours || node != made {
+            run.differ(name, &format!("on {value:04x}: the Rust {rust:?}, ours {ours:?}"));
+        }
+        let address = value.to_be_bytes();
+        let identity = IdentifyResponse { pv_long_address: LongAddress([7; 8]), gateway_address: address };
+        let start = EnumerationStartRequest { unknown: [7; 4], enumeration_address: address };
+        let rust = (identity.gateway_id().map(u16::from), start.enumeration_gateway_id().map(u16::from));
+        let ours = (doors::identified(&[&[7; 8], &address[..]].concat()), doors::enumerated(&[&[7; 4], &address[..]].concat()));
+        if rust != ours {
+            run.differ(name, &format!("named by {value:04x}: the Rust {rust:?}, ours {ours:?}"));
+        }
+        n += 5;
+    }
+    run.done(name, n);
+
+    let name = "data sequence numbers: every sum";
+    for dsn in 0..=255 {
+        for more in 0..=255 {
+            let rust = (DSN(dsn) + more).0;
+            if rust != doors::dsn_add(dsn, more) {
+                run.differ(name, &format!("{dsn} and {more}: the Rust {rust}, ours {}", doors::dsn_add(dsn, more)));
+            }
+        }
+    }
+    run.done(name, 1 << 16);
+
+    let name = "packet headers: random bytes, 0 to 6 of them and a whole packet's";
+    let mut rng = run.part("headers");
+    let count = run.times(100_000);
+    for _ in 0..count {
+        let size = if rng.one_in(10) { rng.below(7) } else { 7 + 255 };
+        let packet = rng.bytes(size);
+        let rust = match ReceivedPackets(&packet).next() {
+            Some(Ok((h, _))) => {
+                let words = [h.node_address.0.get(), h.short_address.0.get(), u16::from(h.dsn.0), u16::from(h.data_length)].map(u64::from);
+                Some([u64::from(h.packet_type.0), words[0], words[1], words[2], words[3]])
+            }
+            _ => None,
+        };
+        if rust != doors::header(&packet) {
+            run.differ(name, &format!("on {}: the Rust {rust:?}, ours {:?}", crate::show::short(&packet), doors::header(&packet)));
+        }
+    }
+    run.done(name, count as u64);
 }

@@ -25,6 +25,13 @@ extern "C" {
     fn johkkesir_epoch_add(place: u8, n: u8) -> u8;
     fn johkkesir_slot_counter(place: u8, number: u16) -> u32;
     fn johkkesir_receive_response(payload: *const u8, len: usize, old: u16, fields: *mut [u64; 7]) -> u64;
+    fn johkkesir_node(address: u16) -> u32;
+    fn johkkesir_node_address(number: u16) -> u16;
+    fn johkkesir_successor(number: u16) -> u32;
+    fn johkkesir_dsn_add(dsn: u8, n: u8) -> u8;
+    fn johkkesir_header(packet: *const u8, len: usize, fields: *mut [u64; 5]) -> u64;
+    fn johkkesir_identified(payload: *const u8, len: usize) -> u32;
+    fn johkkesir_enumerated(payload: *const u8, len: usize) -> u32;
 }
 
 /// A value, or the number of 01's table by which it is refused.
@@ -151,4 +158,44 @@ pub fn receive_response(payload: &[u8], old: u16) -> Result<[u64; 7], (u64, u64)
         Ok(_) => Ok(fields),
         Err(number) => Err((number, fields[0])),
     }
+}
+
+/// 2^16 stands for none.
+fn some(n: u32) -> Option<u16> {
+    u16::try_from(n).ok()
+}
+
+pub fn node(address: u16) -> Option<u16> {
+    some(unsafe { johkkesir_node(address) })
+}
+
+pub fn node_address(number: u16) -> u16 {
+    unsafe { johkkesir_node_address(number) }
+}
+
+pub fn successor(number: u16) -> Option<u16> {
+    some(unsafe { johkkesir_successor(number) })
+}
+
+pub fn dsn_add(dsn: u8, n: u8) -> u8 {
+    unsafe { johkkesir_dsn_add(dsn, n) }
+}
+
+/// A packet's type, node address, short address, data sequence number and data length.
+pub fn header(packet: &[u8]) -> Option<[u64; 5]> {
+    let mut fields = [0; 5];
+    match unsafe { johkkesir_header(packet.as_ptr(), packet.len(), &mut fields) } {
+        0 => Some(fields),
+        _ => None,
+    }
+}
+
+/// The gateway that an identify response of 10 bytes names.
+pub fn identified(payload: &[u8]) -> Option<u16> {
+    some(unsafe { johkkesir_identified(payload.as_ptr(), payload.len()) })
+}
+
+/// The gateway that an enumeration start request of 6 bytes names.
+pub fn enumerated(payload: &[u8]) -> Option<u16> {
+    some(unsafe { johkkesir_enumerated(payload.as_ptr(), payload.len()) })
 }
