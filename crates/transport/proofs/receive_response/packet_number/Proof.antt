@@ -4,8 +4,8 @@ use borrow.Author.Tests.{eq-eqb, ne-eqb}
 use Rattle.transport.specs.Number.{numberOf}
 use Rattle.transport.proofs.Response.{numberAt-le}
 use borrow.Author.Needs.{needs}
-use Rattle.transport.proofs.packet_number.Statement.{statement}
-use Rattle.transport.proofs.packet_number.Tie as tie
+use Rattle.transport.proofs.receive_response.packet_number.Statement.{statement}
+use Rattle.transport.proofs.receive_response.packet_number.Tie as tie
 
 byte-at-requires : tie.Need-byte-at-requires
 byte-at-requires c κs = search needs

@@ -3,8 +3,8 @@ use native.Mathlib.Omega.{arith}
 use mathlib.Core.Path.{_≡_, sym, _∙_, ap}
 use Rattle.transport.proofs.Response.{fieldSize-le, slotCounterAt-sum, responseIn-made}
 use borrow.Author.Needs.{needs}
-use Rattle.transport.proofs.fields.Statement.{statement}
-use Rattle.transport.proofs.fields.Tie as tie
+use Rattle.transport.proofs.receive_response.fields.Statement.{statement}
+use Rattle.transport.proofs.receive_response.fields.Tie as tie
 
 field-size-requires : tie.Need-field-size-requires
 field-size-requires c κs = search needs

@@ -1,7 +1,7 @@
 -- `transport::optional_byte` goes by the flag. Assumes nothing.
 use borrow.Author.Needs.{needs}
-use Rattle.transport.proofs.optional_byte.Statement.{statement}
-use Rattle.transport.proofs.optional_byte.Tie as tie
+use Rattle.transport.proofs.receive_response.optional_byte.Statement.{statement}
+use Rattle.transport.proofs.receive_response.optional_byte.Tie as tie
 
 byte-at-requires : tie.Need-byte-at-requires
 byte-at-requires c κs = search needs

@@ -1,7 +1,7 @@
 -- `transport::field_size` asks whether the bit is clear. Assumes nothing.
 use borrow.Author.Tests.{eq-eqb, ne-eqb}
-use Rattle.transport.proofs.field_size.Statement.{statement}
-use Rattle.transport.proofs.field_size.Tie as tie
+use Rattle.transport.proofs.receive_response.field_size.Statement.{statement}
+use Rattle.transport.proofs.receive_response.field_size.Tie as tie
 
 returns : tie.Need-returns
 returns c = rw (eq-eqb _ _ (c .if1 .taken))
