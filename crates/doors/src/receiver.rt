@@ -1,47 +1,17 @@
 // The link receiver's doors. Its state crosses as ten numbers (the state's own, the length, and the eight tallies in the ledger's order)
 // and the 256 bytes of its body, both lent and left as the call leaves them.
 ghost use mathlib.Core.Path.{_≡_};
-ghost use Rattle.doors.specs.Receivers.{stateAt, stateNumber, receiverAt, placeOf, told, foundOf, pushedAt, fedAt, resetAt, heardOf};
+ghost use Rattle.link_receive.specs.Lent.{receiverAt, placeOf};
+ghost use Rattle.doors.specs.Receivers.{told, foundOf, pushedAt, fedAt, resetAt, heardOf};
 use link_receive::Answer;
 use link_receive::Receiver;
-use link_receive::State;
 use link_receive::Tallies;
-
-// The state of a number; any number above 5 stands for the last.
-fn state_at(n: u64) -> State
-    ensures { λ r. ⌜ r ≡ stateAt n ⌝ }
-{
-    match n {
-        0 => State::Idle,
-        1 => State::Noise,
-        2 => State::StartOfFrame,
-        3 => State::Frame,
-        4 => State::FrameEscape,
-        5 => State::Giant,
-        _ => State::GiantEscape,
-    }
-}
-
-// The number of a state.
-fn state_number(s: State) -> u64
-    ensures { λ r. ⌜ r ≡ stateNumber s ⌝ }
-{
-    match s {
-        State::Idle => 0,
-        State::Noise => 1,
-        State::StartOfFrame => 2,
-        State::Frame => 3,
-        State::FrameEscape => 4,
-        State::Giant => 5,
-        State::GiantEscape => 6,
-    }
-}
 
 // The receiver that ten numbers and a body say.
 fn receiver_at(place: [u64; 10], body: [u8; 256]) -> Receiver
     ensures { λ r. ⌜ r ≡ receiverAt place body ⌝ }
 {
-    let state = state_at(place[0]);
+    let state = link_receive::state_at(place[0]);
     Receiver {
         state: state,
         body: body,
@@ -65,7 +35,7 @@ fn place_of(r: Receiver) -> [u64; 10]
 {
     let state = r.state;
     let t = r.tallies;
-    let n = state_number(state);
+    let n = link_receive::state_number(state);
     [
         n,
         r.len as u64,
@@ -156,17 +126,9 @@ pub extern "C" fn johkkesir_feed(
     ensures { λ _. ⌜ now (body .exit) ≡ fedAt (now (place .entry)) (now (body .entry)) (now (s .entry)) .next .body ⌝ }
     ensures { λ _. ⌜ now (found .exit) ≡ foundOf (fedAt (now (place .entry)) (now (body .entry)) (now (s .entry)) .taken) (fedAt (now (place .entry)) (now (body .entry)) (now (s .entry)) .answer) ⌝ }
 {
-    let was = *place;
-    let held = *body;
-    let r = receiver_at(was, held);
-    let f = r.feed(s);
-    let next = f.next;
+    let f = link_receive::feed_in(place, body, s);
     let answer = f.answer;
-    let units = next.body;
-    let numbers = place_of(next);
     let news = found_by(f.taken as u64, answer);
-    *place = numbers;
-    *body = units;
     *found = news;
     told_by(answer)
 }

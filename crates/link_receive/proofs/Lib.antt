@@ -4,3 +4,5 @@ pub mod Feeds
 pub mod Frames
 pub mod Drains
 pub mod Skips
+pub mod Lent
+pub mod Onwards

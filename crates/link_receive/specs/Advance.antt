@@ -1,24 +1,54 @@
--- A receiver in its parts, which a feeding keeps in locals; over any check. Assumes nothing.
+-- How feeding goes on over the parts of a receiver, its body and tallies lent; over any check. Assumes nothing.
 use mathlib.Core.Path.{_≡_}
-use Prim.Native.Nat.{ℕ, _≤_}
+use Prim.Native.Nat.{ℕ, _+_, _≤_, _<_}
 use mathlib.Core.List.{List}
-use lib.ListN.{length, drop}
+use lib.ListN.{length, getD, drop}
 use Rattle.link_receive.specs.declared.State.{State}
+use Rattle.link_receive.specs.declared.State.the-variants.{Idle, Frame}
 use Rattle.link_receive.specs.declared.Tallies.{Tallies}
+use Rattle.link_receive.specs.declared.Answer.{Answer}
+use Rattle.link_receive.specs.declared.Answer.the-variants as answer
 use Rattle.link_receive.specs.declared.Receiver.{Receiver}
 use Rattle.link_receive.specs.declared.Place.{Place}
+use Rattle.link_receive.specs.declared.Pair.{Pair}
+use Rattle.link_receive.specs.declared.Pair.the-variants.{Opener, Closer, Neither}
+use Rattle.link_receive.specs.declared.Stood.{Stood}
+use Rattle.link_receive.specs.declared.Stepped.{Stepped}
 use Rattle.link_receive.specs.declared.Advanced.{Advanced}
 use Rattle.link_receive.specs.declared.Fed.{Fed}
+use Rattle.link_receive.specs.Tally.{talliesAt}
 use Rattle.link_receive.specs.Step.{limit}
-use Rattle.link_receive.specs.Feed.{feedFrom}
+use Rattle.link_receive.specs.Feed.{stopped, feedFrom}
 
 -- the parts put together
 abbrev pub madeOf : State → List ℕ → ℕ → Tallies → Receiver
 madeOf state body len tallies = record { state = state; body = body; len = len; tallies = tallies }
 
--- a feeding's end, from its parts and the body beside them
-abbrev pub fedOf : Advanced → List ℕ → Fed
-fedOf a body = record { next = madeOf (a .state) body (a .len) (a .tallies); answer = a .answer; taken = a .at }
+-- .. with the tallies among ten numbers
+abbrev pub heldOf : State → List ℕ → ℕ → List ℕ → Receiver
+heldOf state body len place = madeOf state body len (talliesAt place)
+
+-- a step's end, and a feeding's, from the parts
+abbrev pub steppedOf : State → List ℕ → ℕ → List ℕ → Answer → Stepped
+steppedOf state body len place a = record { next = heldOf state body len place; answer = a }
+
+abbrev pub stoodOf : Stood → List ℕ → List ℕ → Stepped
+stoodOf x body place = steppedOf (x .state) body (x .len) place (x .answer)
+
+abbrev pub fedOf : Advanced → List ℕ → List ℕ → Fed
+fedOf a body place = record { next = heldOf (a .state) body (a .len) place; answer = a .answer; taken = a .at }
+
+-- 7e and a code stand at a place
+pub record Stands (s : List ℕ) (i code : ℕ) : Type 0 where
+  pub whole : i + 2 ≤ length s
+  pub first : getD s i 0 ≡ 0x7e
+  pub second : getD s (i + 1) 0 ≡ code
+
+-- what a pair that is found tells: 7e 07 outside a frame, or 7e 08 inside one
+abbrev pub Paired : State → List ℕ → ℕ → Pair → Type 0
+Paired state s i Opener = (state ≡ Idle) × Stands s i 0x07
+Paired state s i Closer = (state ≡ Frame) × Stands s i 0x08
+Paired state s i Neither = 0 ≤ i
 
 module _ (check : List ℕ → ℕ) where
   -- a place further on, from which feeding on is feeding from here: in the same state, with no tally raised
@@ -27,3 +57,16 @@ module _ (check : List ℕ → ℕ) where
     pub further : i ≤ p .at
     pub within : p .len ≤ limit
     pub same : (t : Tallies) → feedFrom check (madeOf state next (p .len) t) (drop (p .at) s) (p .at) ≡ feedFrom check (madeOf state body len t) (drop i s) i
+
+  -- how feeding ends that stands at a place with an answer: it goes on after none, and stops at any other
+  abbrev pub fedBy : List ℕ → Answer → Receiver → ℕ → Fed
+  fedBy s answer.Nothing q j = feedFrom check q (drop j s) j
+  fedBy s (answer.Frame address t n) q j = stopped q (answer.Frame address t n) j
+  fedBy s answer.Refused q j = stopped q answer.Refused j
+
+  -- a receiver further on, and what it hands out, with which feeding ends as from here
+  pub record Onward (s : List ℕ) (r : Receiver) (i : ℕ) (q : Receiver) (a : Answer) (j : ℕ) : Type 0 where
+    pub placed : j ≤ length s
+    pub further : i < j
+    pub within : q .len ≤ limit
+    pub same : fedBy s a q j ≡ feedFrom check r (drop i s) i

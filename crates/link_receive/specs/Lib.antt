@@ -4,3 +4,4 @@ pub mod Step
 pub mod Feed
 pub mod Drain
 pub mod Advance
+pub mod Lent

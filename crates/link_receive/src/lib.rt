@@ -1,19 +1,23 @@
 // The gateway link layer's receiver (link/receive.rs): bytes to frames. The receiver is a state handed in and handed back by each step.
 ghost use mathlib.Core.Path.{_≡_};
 ghost use Prim.Native.Nat.{_<_, _≤_};
-ghost use lib.ListN.{length, take, drop};
-ghost use Rattle.laws.specs.Bytes.{of16};
+ghost use lib.ListN.{take};
 ghost use Rattle.crc.specs.Crc.{crcOf};
-ghost use Rattle.link_receive.specs.Tally.{kindOf, raise};
+ghost use Rattle.link_receive.specs.Tally.{kindOf, raise, numbersOf, talliesAt};
 ghost use Rattle.link_receive.specs.Frames.{payloadOf};
-ghost use Rattle.link_receive.specs.Step.{limit, openOf, turnOf, toOf, pushedOf, countedOf, parsedOf, closedOf, stepOf, freshOf, resetOf};
-ghost use Rattle.link_receive.specs.Feed.{feedFrom, feedOf};
-ghost use Rattle.link_receive.specs.Advance.{madeOf, fedOf, Ahead};
+ghost use Rattle.link_receive.specs.Step.{limit, openOf, toOf, pushedOf, countedOf, parsedOf, closedOf, stepOf, freshOf, resetOf};
+ghost use Rattle.link_receive.specs.Feed.{feedOf};
+ghost use Rattle.link_receive.specs.Lent.{stateAt, stateNumber, receiverAt, placeOf, fedInOf};
 ghost use Rattle.link_receive.specs.Drain.{extendOf};
 use address::Address;
-use escaping::Unescaped;
+use feeding::advance;
+use feeding::fed;
 use link::Type;
-use runs::Sort;
+use moves::parse_frame;
+use moves::turn;
+
+mod feeding;
+mod moves;
 
 // Where the receiver stands in the stream.
 pub enum State {
@@ -77,6 +81,40 @@ impl Tallies {
         noise: 0,
     };
 
+    // The eight numbers in the ledger's order, behind two that are 0.
+    fn numbers(self) -> [u64; 10]
+        ensures { λ r. ⌜ r ≡ numbersOf self ⌝ }
+    {
+        [
+            0,
+            0,
+            self.openings,
+            self.frames,
+            self.runts,
+            self.checksums,
+            self.giants,
+            self.escaped,
+            self.broken,
+            self.noise,
+        ]
+    }
+
+    // The tallies among ten numbers: all but the first two.
+    fn of(place: [u64; 10]) -> Tallies
+        ensures { λ r. ⌜ r ≡ talliesAt place ⌝ }
+    {
+        Tallies {
+            openings: place[2],
+            frames: place[3],
+            runts: place[4],
+            checksums: place[5],
+            giants: place[6],
+            escaped: place[7],
+            broken: place[8],
+            noise: place[9],
+        }
+    }
+
     // One more of a kind.
     fn raised(mut self, tally: Tally) -> Tallies
         ensures { λ r. ⌜ r ≡ raise (kindOf tally) self ⌝ }
@@ -129,101 +167,10 @@ pub enum Move {
     Close,
 }
 
-// The byte after 7e inside a frame that holds `len` units.
-fn turn_escaped(len: usize, b: u8) -> Move
-    ensures { λ r. ⌜ r ≡ turnOf State.FrameEscape len b ⌝ }
-{
-    if b == 0x08 {
-        return Move::Close;
-    }
-    match escaping::unescaped_byte(b) {
-        Unescaped::Byte(d) => {
-            if len < Receiver::MAX_FRAME_SIZE {
-                Move::Push(d)
-            } else {
-                Move::Count(Tally::Escaped, State::GiantEscape)
-            }
-        }
-        Unescaped::Invalid => Move::Break,
-    }
-}
-
-// What a byte asks for, in a state with `len` units held.
-fn turn(state: State, len: usize, b: u8) -> Move
-    ensures { λ r. ⌜ r ≡ turnOf state len b ⌝ }
-{
-    match state {
-        State::Idle => match b {
-            0x00 | 0xff => Move::To(State::Idle),
-            0x7e => Move::To(State::StartOfFrame),
-            _ => Move::Count(Tally::Noise, State::Noise),
-        },
-        State::Noise => match b {
-            0x00 | 0xff => Move::To(State::Idle),
-            0x7e => Move::To(State::StartOfFrame),
-            _ => Move::To(State::Noise),
-        },
-        State::StartOfFrame => match b {
-            0x07 => Move::Count(Tally::Openings, State::Frame),
-            _ => Move::Count(Tally::Noise, State::Noise),
-        },
-        State::Frame => {
-            if b == 0x7e {
-                return Move::To(State::FrameEscape);
-            }
-            if len < Receiver::MAX_FRAME_SIZE {
-                Move::Push(b)
-            } else {
-                Move::Count(Tally::Giants, State::Giant)
-            }
-        }
-        State::FrameEscape => turn_escaped(len, b),
-        State::Giant => match b {
-            0x7e => Move::To(State::GiantEscape),
-            _ => Move::To(State::Giant),
-        },
-        State::GiantEscape => match b {
-            0x07 => Move::Count(Tally::Openings, State::Frame),
-            0x08 => Move::To(State::Idle),
-            _ => Move::To(State::Giant),
-        },
-    }
-}
-
 // What a closed body is: a sound frame, or one that is counted and dropped.
 pub enum Parsed {
     Sound { address: Address, frame_type: Type },
     Dropped(Tally),
-}
-
-// Two bytes as a number, the higher first.
-fn number(hi: u8, lo: u8) -> u16
-    ensures { λ r. ⌜ r ≡ of16 hi lo ⌝ }
-{
-    (hi as u16) * 256 + (lo as u16)
-}
-
-// The verdict on a closed body.
-fn parse_frame(body: &[u8]) -> Parsed
-    ensures { λ r. ⌜ r ≡ parsedOf crcOf (now (body .entry)) ⌝ }
-{
-    let n = body.len();
-    if n < 6 {
-        return Parsed::Dropped(Tally::Runts);
-    }
-    let m = n - 2;
-    let crc = crc::crc(&body[..m]);
-    let expected = number(body[n - 1], body[m]);
-    if crc == expected {
-        let address = Address::from_u16(number(body[0], body[1]));
-        let kind = number(body[2], body[3]);
-        Parsed::Sound {
-            address: address,
-            frame_type: Type(kind),
-        }
-    } else {
-        Parsed::Dropped(Tally::Checksums)
-    }
 }
 
 // What a step or a feeding hands out. A frame's payload is the first `len` bytes after the fourth of the body handed back.
@@ -280,162 +227,80 @@ struct Place {
     at: usize,
 }
 
-// What a feeding stopped with: the parts of the receiver beside its body, the answer, and how many bytes of the slice were taken.
+// What stands at a place: the pair that opens a frame, outside one; the pair that closes the open frame; or whatever else.
+enum Pair {
+    Opener,
+    Closer,
+    Neither,
+}
+
+// A receiver after one byte, its body and tallies beside it, and what it hands out.
+struct Stood {
+    state: State,
+    len: usize,
+    answer: Answer,
+}
+
+// What a feeding stopped with: the parts of the receiver beside its body and tallies, the answer, and how many bytes of the slice were taken.
 struct Advanced {
     state: State,
     len: usize,
-    tallies: Tallies,
     answer: Answer,
     at: usize,
 }
 
-// The units of an open frame, raw and escaped, as far as there is room and the slice has them whole.
-fn units(len0: usize, body: &mut [u8], s: &[u8], i0: usize) -> Place
-    requires { ⌜ (len0 ≤ limit) × (length (now body) ≡ limit) × (i0 ≤ length (now s)) ⌝ }
-    ensures { λ r. ⌜ Ahead crcOf State.Frame (now (s .entry)) (now (body .entry)) len0 i0 (now (body .exit)) r ⌝ }
-{
-    let mut len = len0;
-    let mut i = i0;
-    while i < s.len() {
-        let k = runs::copy_run(Sort::Raw, body, len, s, i);
-        len += k;
-        i += k;
-        if s.len() - i < 2 {
-            break;
-        }
-        if s[i] != 0x7e {
-            break;
-        }
-        if Receiver::MAX_FRAME_SIZE <= len {
-            break;
-        }
-        match escaping::unescaped_byte(s[i + 1]) {
-            Unescaped::Byte(d) => {
-                body[len] = d;
-                len += 1;
-                i += 2;
-            }
-            Unescaped::Invalid => {
-                break;
-            }
-        }
-    }
-    Place { len: len, at: i }
+// What a feeding over a lent receiver hands out, and how many bytes were taken.
+pub struct FedIn {
+    pub answer: Answer,
+    pub taken: usize,
 }
 
-// Many bytes at once, where all of them leave the state as it is: idle bytes, noise, what a tail skips, and units of an open frame.
-fn ahead(state: State, len: usize, body: &mut [u8], s: &[u8], i: usize) -> Place
-    requires { ⌜ (len ≤ limit) × (length (now body) ≡ limit) × (i ≤ length (now s)) ⌝ }
-    ensures { λ r. ⌜ Ahead crcOf state (now (s .entry)) (now (body .entry)) len i (now (body .exit)) r ⌝ }
+// The state of a number; any number above 5 stands for the last.
+pub fn state_at(n: u64) -> State
+    ensures { λ r. ⌜ r ≡ stateAt n ⌝ }
 {
-    match state {
-        State::Idle => {
-            let k = runs::run(Sort::Idle, s, i);
-            Place {
-                len: len,
-                at: i + k,
-            }
-        }
-        State::Noise => {
-            let k = runs::run(Sort::Noise, s, i);
-            Place {
-                len: len,
-                at: i + k,
-            }
-        }
-        State::Frame => units(len, body, s, i),
-        State::Giant => {
-            let k = runs::run(Sort::Raw, s, i);
-            Place {
-                len: len,
-                at: i + k,
-            }
-        }
-        _ => Place { len: len, at: i },
+    match n {
+        0 => State::Idle,
+        1 => State::Noise,
+        2 => State::StartOfFrame,
+        3 => State::Frame,
+        4 => State::FrameEscape,
+        5 => State::Giant,
+        _ => State::GiantEscape,
     }
 }
 
-// Feeds a slice from a place on, up to the first frame handed out or its end. The parts of the receiver stand in locals and its body
-// is lent, so that no byte costs a copy of the whole.
-fn advance(
-    state0: State,
-    len0: usize,
-    tallies0: Tallies,
-    body: &mut [u8],
-    s: &[u8],
-    i0: usize,
-) -> Advanced
-    requires { ⌜ (len0 ≤ limit) × (length (now body) ≡ limit) × (i0 ≤ length (now s)) ⌝ }
-    ensures { λ r. ⌜ fedOf r (now (body .exit)) ≡ feedFrom crcOf (madeOf state0 (now (body .entry)) len0 tallies0) (drop i0 (now (s .entry))) i0 ⌝ }
+// The number of a state.
+pub fn state_number(s: State) -> u64
+    ensures { λ r. ⌜ r ≡ stateNumber s ⌝ }
 {
-    let mut state = state0;
-    let mut len = len0;
-    let mut tallies = tallies0;
-    let mut i = i0;
-    while i < s.len() {
-        let p = ahead(state, len, body, s, i);
-        len = p.len;
-        i = p.at;
-        if i == s.len() {
-            break;
-        }
-        let m = turn(state, len, s[i]);
-        i += 1;
-        match m {
-            Move::To(next) => {
-                state = next;
-            }
-            Move::Push(d) => {
-                body[len] = d;
-                len += 1;
-                state = State::Frame;
-            }
-            Move::Count(tally, next) => {
-                tallies = tallies.raised(tally);
-                len = 0;
-                state = next;
-            }
-            Move::Break => {
-                tallies = tallies.raised(Tally::Broken);
-                tallies = tallies.raised(Tally::Noise);
-                len = 0;
-                state = State::Noise;
-            }
-            Move::Close => {
-                let n = len;
-                len = 0;
-                state = State::Idle;
-                match parse_frame(&body[..n]) {
-                    Parsed::Sound {
-                        address,
-                        frame_type,
-                    } => {
-                        tallies = tallies.raised(Tally::Frames);
-                        return Advanced {
-                            state: state,
-                            len: len,
-                            tallies: tallies,
-                            answer: Answer::Frame {
-                                address: address,
-                                frame_type: frame_type,
-                                len: n - 6,
-                            },
-                            at: i,
-                        };
-                    }
-                    Parsed::Dropped(tally) => {
-                        tallies = tallies.raised(tally);
-                    }
-                }
-            }
-        }
+    match s {
+        State::Idle => 0,
+        State::Noise => 1,
+        State::StartOfFrame => 2,
+        State::Frame => 3,
+        State::FrameEscape => 4,
+        State::Giant => 5,
+        State::GiantEscape => 6,
     }
-    Advanced {
-        state: state,
-        len: len,
-        tallies: tallies,
-        answer: Answer::Nothing,
-        at: i,
+}
+
+// `Receiver::feed` over a receiver that is lent as ten numbers (state, length, tallies) and its body: for a loop that keeps them.
+pub fn feed_in(place: &mut [u64; 10], body: &mut [u8; 256], s: &[u8]) -> FedIn
+    ensures answer { λ r. ⌜ r ≡ fedInOf (feedOf crcOf (receiverAt (now (place .entry)) (now (body .entry))) (now (s .entry))) ⌝ }
+    ensures numbers { λ _. ⌜ now (place .exit) ≡ placeOf (feedOf crcOf (receiverAt (now (place .entry)) (now (body .entry))) (now (s .entry)) .next) ⌝ }
+    ensures units { λ _. ⌜ now (body .exit) ≡ feedOf crcOf (receiverAt (now (place .entry)) (now (body .entry))) (now (s .entry)) .next .body ⌝ }
+{
+    let state = state_at(place[0]);
+    let len = place[1] as usize;
+    let a = fed(state, len, place, body, s);
+    let next = a.state;
+    let answer = a.answer;
+    place[0] = state_number(next);
+    place[1] = a.len as u64;
+    FedIn {
+        answer: answer,
+        taken: a.at,
     }
 }
 
@@ -590,27 +455,19 @@ impl Receiver {
     pub fn feed(self, s: &[u8]) -> Fed
         ensures { λ r. ⌜ r ≡ feedOf crcOf self (now (s .entry)) ⌝ }
     {
-        let len = self.len;
-        if Receiver::MAX_FRAME_SIZE < len {
-            return Fed {
-                next: self,
-                answer: Answer::Refused,
-                taken: 0,
-            };
-        }
         let state = self.state;
-        let tallies = self.tallies;
+        let mut tallies = self.tallies.numbers();
         let mut body = self.body;
-        let a = advance(state, len, tallies, &mut body, s, 0);
-        let state = a.state;
-        let tallies = a.tallies;
+        let a = fed(state, self.len, &mut tallies, &mut body, s);
+        let next = a.state;
         let answer = a.answer;
+        let counts = Tallies::of(tallies);
         Fed {
             next: Receiver {
-                state: state,
+                state: next,
                 body: body,
                 len: a.len,
-                tallies: tallies,
+                tallies: counts,
             },
             answer: answer,
             taken: a.at,
@@ -629,24 +486,23 @@ impl Receiver {
             };
         }
         let mut state = self.state;
-        let mut tallies = self.tallies;
+        let mut tallies = self.tallies.numbers();
         let mut body = self.body;
         let mut i = 0;
         while i < s.len() {
-            let a = advance(state, len, tallies, &mut body, s, i);
+            let a = advance(state, len, &mut tallies, &mut body, s, i);
             let next = a.state;
-            let raised = a.tallies;
             state = next;
             len = a.len;
-            tallies = raised;
             i = a.at;
         }
+        let counts = Tallies::of(tallies);
         Stepped {
             next: Receiver {
                 state: state,
                 body: body,
                 len: len,
-                tallies: tallies,
+                tallies: counts,
             },
             answer: Answer::Nothing,
         }

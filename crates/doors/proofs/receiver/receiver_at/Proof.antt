@@ -1,6 +1,7 @@
 -- `doors::receiver::receiver_at` puts each number in its field. Assumes nothing.
 use mathlib.Core.Path.{_≡_}
 use borrow.Author.Needs.{needs}
+use Rattle.link_receive.specs.Tally.{talliesAt}
 use Rattle.doors.proofs.receiver.receiver_at.Statement.{statement}
 use Rattle.doors.proofs.receiver.receiver_at.Tie as tie
 
@@ -38,6 +39,7 @@ array-read-t34 : tie.Need-array-read-t34
 array-read-t34 c = search needs
 
 returns : tie.Need-returns
+unfolding talliesAt
 returns c = rw (c .state-at .ensures)
 
 pub receiver-at-spec : {M : Type 1} → statement M

@@ -8,8 +8,8 @@ use borrow.Author.Needs.{needs}
 use Rattle.crc.specs.Crc.{crcOf}
 use Rattle.link_receive.proofs.Turns.{escape-push}
 use Rattle.link_receive.proofs.Skips.{Held, placeOf, held-none, held-run, held-escape}
-use Rattle.link_receive.proofs.units.Statement.{statement}
-use Rattle.link_receive.proofs.units.Tie as tie
+use Rattle.link_receive.proofs.feeding.units.Statement.{statement}
+use Rattle.link_receive.proofs.feeding.units.Tie as tie
 
 abbrev Inv-loop : tie.InvT-loop
 Inv-loop len0 body₀ s i0 len₀ i₀ body len i = Held crcOf s body₀ len₀ i₀ body (placeOf len i)

@@ -6,8 +6,8 @@ use Rattle.escaping.specs.Escapes.{meaning}
 use Rattle.link_receive.specs.Step.{turnOf}
 use Rattle.link_receive.proofs.Turns.{pairOf-other, tailOf-other}
 use borrow.Author.Needs.{needs}
-use Rattle.link_receive.proofs.turn.Statement.{statement}
-use Rattle.link_receive.proofs.turn.Tie as tie
+use Rattle.link_receive.proofs.moves.turn.Statement.{statement}
+use Rattle.link_receive.proofs.moves.turn.Tie as tie
 
 enum-told : tie.Need-enum-told
 enum-told c = search needs

@@ -8,8 +8,8 @@ use Rattle.runs.specs.declared.Sort.the-variants as sort
 use Rattle.runs.proofs.Laws.{run-placed, run-all}
 use Rattle.link_receive.specs.declared.State.the-variants.{Idle, Noise, Frame, Giant}
 use Rattle.link_receive.proofs.Skips.{turnOf-idle, turnOf-noise, turnOf-tail, feedFrom-stays}
-use Rattle.link_receive.proofs.ahead.Statement.{statement}
-use Rattle.link_receive.proofs.ahead.Tie as tie
+use Rattle.link_receive.proofs.feeding.ahead.Statement.{statement}
+use Rattle.link_receive.proofs.feeding.ahead.Tie as tie
 
 enum-told : tie.Need-enum-told
 enum-told c = search needs

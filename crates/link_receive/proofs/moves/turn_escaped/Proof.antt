@@ -3,8 +3,8 @@ use Rattle.escaping.specs.Escapes.{meaning}
 use Rattle.link_receive.specs.Step.{turnOf}
 use Rattle.link_receive.proofs.Turns.{escape-push, escape-overlong, escape-break}
 use borrow.Author.Needs.{needs}
-use Rattle.link_receive.proofs.turn_escaped.Statement.{statement}
-use Rattle.link_receive.proofs.turn_escaped.Tie as tie
+use Rattle.link_receive.proofs.moves.turn_escaped.Statement.{statement}
+use Rattle.link_receive.proofs.moves.turn_escaped.Tie as tie
 
 returns : tie.Need-returns
 unfolding turnOf meaning

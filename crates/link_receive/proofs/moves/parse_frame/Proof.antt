@@ -11,8 +11,8 @@ use Rattle.crc.specs.Crc.{crcOf}
 use Rattle.reading.specs.Counts.{verdict}
 use Rattle.link_receive.specs.Step.{parsedOf}
 use borrow.Author.Needs.{needs}
-use Rattle.link_receive.proofs.parse_frame.Statement.{statement}
-use Rattle.link_receive.proofs.parse_frame.Tie as tie
+use Rattle.link_receive.proofs.moves.parse_frame.Statement.{statement}
+use Rattle.link_receive.proofs.moves.parse_frame.Tie as tie
 
 returns : tie.Need-returns
 unfolding parsedOf verdict
