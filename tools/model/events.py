@@ -9,11 +9,16 @@ order and which is raised (`Counters` of the source document transport/receiver.
     events.py --sound FILE            FILE is an event log: says how many records of each kind it has, or where it stops being sound
     events.py --small                 writes a small stream that gives each kind of record: crates/events/stdin
     events.py --make SEED COUNT       writes a random stream of COUNT frames that meets every refusal that a stream can
+    events.py --against PROGRAM SEED STREAMS COUNT
+                                      compares PROGRAM, which is crates/events, with the model on so many random streams, log and ledger: says how
+                                      often each answer came and that there is no difference, or which stream shows one
 """
 import collections
 import os
 import random
+import subprocess
 import sys
+import tempfile
 
 sys.path.insert(0, os.path.dirname(os.path.abspath(__file__)))
 import ledger
@@ -290,10 +295,41 @@ def made(seed, count):
 
 
 def answers(s):
+    """How often each answer came to a frame."""
     tally = collections.Counter()
     for given in steps(s)[1]:
         tally[f"refusal {given}" if isinstance(given, int) else f"kind {given[0][0]}" if given else "no event"] += 1
-    return "".join(f"{name} {n}\n" for name, n in sorted(tally.items()))
+    return tally
+
+
+def books(s):
+    r, _, nine = steps(s)
+    rows = list(zip(ledger.NAMES, nine)) + [(name, r.counters[name]) for name in COUNTERS]
+    return "".join(f"{name} {n}\n" for name, n in rows)
+
+
+def told(tally):
+    return "".join(f"{n:>9}  {name}\n" for name, n in sorted(tally.items()))
+
+
+def against(program, seed, streams, count):
+    tally, records = collections.Counter(), collections.Counter()
+    for i in range(seed, seed + streams):
+        s = made(i, count)
+        with tempfile.NamedTemporaryFile() as f:
+            f.write(s)
+            f.flush()
+            got = subprocess.run([program, f.name], capture_output=True, check=True).stdout
+            said = subprocess.run([program, f.name, "--ledger"], capture_output=True, check=True).stdout.decode()
+        kinds, end = sound(got)
+        if got != log(s) or said != books(s) or end != len(got):
+            print(f"DIFFERENCE with the model on the stream of --make {i} {count}")
+            return 1
+        tally += answers(s)
+        records += collections.Counter({f"records of kind {k}": n for k, n in kinds.items()})
+    sys.stdout.write(told(tally) + told(records))
+    print(f"{sum(tally.values()):>9}  frames by the independent model of 01's step and records: logs, ledgers and counters, no difference")
+    return 0
 
 
 def main(words):
@@ -303,11 +339,11 @@ def main(words):
     elif len(words) == 3 and words[0] == "--make":
         out.write(made(int(words[1]), int(words[2])))
     elif len(words) == 2 and words[0] == "--ledger":
-        r, _, nine = steps(ledger.read(words[1]))
-        for name, n in list(zip(ledger.NAMES, nine)) + [(name, r.counters[name]) for name in COUNTERS]:
-            print(name, n)
+        sys.stdout.write(books(ledger.read(words[1])))
+    elif len(words) == 5 and words[0] == "--against":
+        return against(words[1], *map(int, words[2:]))
     elif len(words) == 2 and words[0] == "--answers":
-        sys.stdout.write(answers(ledger.read(words[1])))
+        sys.stdout.write(told(answers(ledger.read(words[1]))))
     elif len(words) == 2 and words[0] == "--sound":
         data = ledger.read(words[1])
         kinds, end = sound(data)

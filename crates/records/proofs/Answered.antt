@@ -2,7 +2,7 @@
 -- length, and nothing else. Assumes nothing.
 use mathlib.Core.Path.{_≡_, refl, sym, _∙_, ap}
 use Prim.Native.Nat.{ℕ, suc, _≤_, _<_}
-use mathlib.Core.Bool.{false, cond}
+use mathlib.Core.Bool.{true, false, cond}
 use mathlib.Core.List.{List, []}
 use native.Mathlib.Omega.{arith}
 use lib.ListN.{length, getD, drop}
@@ -11,7 +11,7 @@ use borrow.Author.Tests.{ltb-true, le-ltb, lt-ltb}
 use Rattle.laws.specs.Bytes.{Bytes}
 use Rattle.laws.specs.Handed.{refused, value}
 use Rattle.tables.specs.Keys.{firstOf, overOf}
-use Rattle.event_record.specs.Record.{written}
+use Rattle.event_record.specs.Record.{written, soundAt}
 use Rattle.transport_receiver.specs.Types
 use Rattle.transport_receiver.specs.State.{State, Frame, commandKey, payloadAt, stateOf}
 use Rattle.transport_receiver.specs.Step.{Event, command, Outcome, silent, event, stepOf, overLimit}
@@ -24,10 +24,11 @@ use Rattle.transport_receiver.specs.declared.Answer.{Answer}
 use Rattle.transport_receiver.specs.declared.Answer.the-variants.{OverLimit, InvalidGatewayID, WrongDirection, WrongLength, UnknownStatusType, TooShort, UnknownGateway, NumbersFull, SequencesFull, CommandsFull, NamesFrom, InvalidVersion, NoRequest, UnhandledType, PayloadTooLong, Counted, CommandKept, EnumerationStarted, IdentityObserved, VersionObserved, EnumerationEnded, SlotCounterCaptured, SlotCounterObserved, CommandExecuted}
 use Rattle.transport_receiver.proofs.Pool.{by, overLimit-places}
 use Rattle.transport_receiver.proofs.Refines.{Sized, refines}
-use Rattle.records.specs.Records.{Entry, recordsOf, recordsIn, bytesOf, recordsHanded}
+use Rattle.records.specs.Records.{Entry, entryBytes, recordsOf, recordsIn, bytesOf, recordsHanded}
 use Rattle.records.specs.Answers.{eventIn, eventOf}
+use Rattle.records.proofs.Log.{Holds, each-sound, log-holds}
 use Rattle.records.proofs.Came.{passed-step, came}
-use Rattle.records.proofs.Every.{Fine, held-small, every-sound, every-small}
+use Rattle.records.proofs.Every.{Fine, held-small, arrays-small, every-sound, every-small}
 
 -- an executed command points at a place that there is
 abbrev Placed : Answer → Type 0
@@ -128,10 +129,10 @@ module _ (r : Receiver) (z : Sized r) (f : Frame) where
 
       -- neither 13 nor 41 refuses the records of an answer ..
       pub answer-fine : Fine records
-      answer-fine = of-outcome Fine (refl, refl) (every-sound r f b)
+      answer-fine = of-outcome Fine (refl, refl) (every-sound (stateOf r) (arrays-small r) f b)
 
       pub answer-small : length (bytesOf written records) ≤ 512
-      answer-small = of-outcome (λ xs. length (bytesOf written xs) ≤ 512) (omega arith) (every-small r f b)
+      answer-small = of-outcome (λ xs. length (bytesOf written xs) ≤ 512) (omega arith) (every-small (stateOf r) (arrays-small r) f b)
 
       -- .. so that `write` hands back 40, or how many bytes all of them have ..
       pub answer-written : (room : ℕ) → recordsHanded records room ≡ cond (ltb room (length (bytesOf written records))) (refused 40) (value (length (bytesOf written records)))
@@ -141,3 +142,10 @@ module _ (r : Receiver) (z : Sized r) (f : Frame) where
       -- .. and a buffer of 512 bytes takes them
       pub answer-fits : (room : ℕ) → 512 ≤ room → recordsHanded records room ≡ value (length (bytesOf written records))
       answer-fits room h = answer-written room ∙ rw (le-ltb room (length (bytesOf written records)) (omega (arith, answer-small)))
+
+      -- .. and each of them is sound: a reader of the log finds just these
+      pub answer-sound : (i : ℕ) (d : Entry) → i < length records → soundAt written (entryBytes written (getD records i d)) ≡ true
+      answer-sound i d l = each-sound records (answer-fine .1) i d l
+
+      pub answer-holds : Holds (bytesOf written records) 0 records
+      answer-holds = log-holds records (answer-fine .1)

@@ -3,14 +3,13 @@ use mathlib.Core.Path.{_≡_, refl, sym, _∙_, ap, subst}
 use Prim.Native.Nat.{ℕ, zero, suc, _+_, _-_, _≤_, _<_}
 use mathlib.Core.Bool.{Bool, true, false, cond, not, _&&_}
 use mathlib.Core.List.{List, [], _∷_, append-nil}
-use mathlib.Core.Option.{none, some}
+use mathlib.Core.Option.{some}
 use native.Mathlib.Omega.{arith}
 use lib.ListN.{length, getD, take, drop, length-take, length-drop}
 use lib.Seq.{length-take-le}
 use lib.Dec.{eqb, ltb}
 use borrow.Author.Tests.{eqb-true, ltb-true, ltb-false, le-ltb}
 use Rattle.laws.specs.Bytes.{Bytes, be16At}
-use Rattle.laws.specs.Handed.{refused}
 use Rattle.laws.proofs.Bytes.{bytes-drop}
 use Rattle.address.specs.Address.{gatewayOf, addressOf, isFrom}
 use Rattle.address.specs.declared.Address.the-variants.{From, To}
@@ -28,8 +27,8 @@ use Rattle.event_record.proofs.Written.{length-framed}
 use Rattle.event_record.proofs.Commands.{length-command}
 use Rattle.event_record.proofs.Fit.{fits-started, fits-identity, fits-version, fits-ended, fits-captured, fits-counter, fits-command}
 use Rattle.transport_receiver.specs.Types
-use Rattle.transport_receiver.specs.State.{Frame, Command, commandIn, stateOf}
-use Rattle.transport_receiver.specs.Step.{Event, identity, command, event, stepOf, overLimit, keyOf, statusOf}
+use Rattle.transport_receiver.specs.State.{State, Frame, Command, commandIn, stateOf}
+use Rattle.transport_receiver.specs.Step.{Event, identity, event, stepOf, overLimit, keyOf, statusOf}
 use Rattle.transport_receiver.specs.declared.Receiver.{Receiver}
 use Rattle.transport_receiver.proofs.Pool.{by, overLimit-places}
 use Rattle.records.specs.Records.{Entry, entry, recordsOf, bytesOf, anyOver, anyUnsound}
@@ -77,6 +76,13 @@ command-small r k c o v =
     subst (λ (d : Command). length (d .payload) ≤ 245) e (simp length-take (omega arith)))
     (λ t. absurd (let z : _≡_ {A = ℕ} 0 1 = cc (valueAt-none values (r .ckeys) k (ltb-false i (length (r .ckeys)) t)) in omega arith))
 
+-- in a state that 12 does not refuse, the payload of a waiting command has at most 245 bytes; so it is in every state that arrays mean
+abbrev pub Small : State → Type 0
+Small s = overLimit (s .commands) ≡ false → (k : ℕ) (c : Command) → valueAt (s .commands) k ≡ some c → length (c .payload) ≤ 245
+
+pub arrays-small : (r : Receiver) → Small (stateOf r)
+arrays-small r o k c v = command-small r k c o v
+
 -- a To address names a gateway of 15 bits
 to-15 : (n : ℕ) → isFrom (addressOf n) ≡ false → gatewayOf (addressOf n) ≤ 0x7fff
 unfolding addressOf
@@ -93,10 +99,10 @@ not-false′ false e = sym e
 length-one : (g : ℕ) (e : kind.Event) → length (bytesOf written (entry g e ∷ [])) ≡ 6 + length (kind.bodyOf written e)
 length-one g e = ap length (append-nil (recordOf written g e)) ∙ length-framed written (kind.kindOf e) g (kind.bodyOf written e)
 
--- the bytes of any frame, at any state that arrays mean
-module _ (r : Receiver) (f : Frame) (b : Bytes (f .payload)) (e : Event) (q : stepOf (stateOf r) f .outcome ≡ event e) where
-  rows : NoneHolds (rowsOf (stateOf r) f)
-  rows = passed-step (stateOf r) f e q .0
+-- any frame of bytes, at any such state
+module _ (s : State) (small : Small s) (f : Frame) (b : Bytes (f .payload)) (e : Event) (q : stepOf s f .outcome ≡ event e) where
+  rows : NoneHolds (rowsOf s f)
+  rows = passed-step s f e q .0
 
   gateway-15 : f .gateway ≤ 0x7fff
   gateway-15 = ltb-false 0x7fff (f .gateway) (rows .1 .0)
@@ -112,32 +118,32 @@ module _ (r : Receiver) (f : Frame) (b : Bytes (f .payload)) (e : Event) (q : st
   -- no record of the event is refused by 13 or 41
   pub every-sound : Fine (recordsOf e)
   every-sound =
-      came (stateOf r) f (λ x. Fine (recordsOf x))
+      came s f (λ x. Fine (recordsOf x))
       (λ k. fine-one (f .gateway) kind.slot-captured gateway-15 (fits-captured (f .gateway) gateway-15))
       (λ k n m. let a = drop (neededOf (statusOf f)) (f .payload) in (rw (le-ltb 0x7fff (f .gateway) gateway-15, none-over (f .gateway) gateway-15 _), rw (fits-counter (f .gateway) gateway-15 n m) (none-unsound (f .gateway) gateway-15 a (bytes-drop (neededOf (statusOf f)) (f .payload) b))))
-      (λ k c v. let l = command-small r (keyOf f) c (rows .0) v in fine-one (f .gateway) (kind.command (c .kind) (c .payload) (getD (f .payload) 3 0) (drop 5 (f .payload))) gateway-15 (fits-command (f .gateway) gateway-15 (c .kind) (c .payload) (getD (f .payload) 3 0) (drop 5 (f .payload)) (omega arith) (simp length-drop (omega (arith, payload-250)))))
+      (λ k c v. let l = small (rows .0) (keyOf f) c v in fine-one (f .gateway) (kind.command (c .kind) (c .payload) (getD (f .payload) 3 0) (drop 5 (f .payload))) gateway-15 (fits-command (f .gateway) gateway-15 (c .kind) (c .payload) (getD (f .payload) 3 0) (drop 5 (f .payload)) (omega arith) (simp length-drop (omega (arith, payload-250)))))
       (λ k. let n : isFrom (addressOf (be16At (f .payload) 4)) ≡ false = rw k at (rows .1 .1 .1 .1 .1 .1 .1 .1 .1 .1 .0) in let h = to-15 (be16At (f .payload) 4) n in fine-one (gatewayOf (addressOf (be16At (f .payload) 4))) kind.enumeration-started h (fits-started (gatewayOf (addressOf (be16At (f .payload) 4))) h))
       (λ k. identified (rw k at (rows .1 .1 .1 .1 .1 .1 .0)))
       (λ k. identified (rw k at (rows .1 .1 .1 .1 .1 .1 .0)))
       (λ k. let n : not (isText (f .payload)) ≡ false = rw k at (rows .1 .1 .1 .1 .1 .1 .1 .1 .1 .1 .1 .0) in fine-one (f .gateway) (kind.version-text (f .payload)) gateway-15 (fits-version (f .gateway) gateway-15 (f .payload) (omega (arith, payload-250)) (isText-text (f .payload) .0 (not-false′ (isText (f .payload)) n))))
       (λ k. fine-one (f .gateway) kind.enumeration-ended gateway-15 (fits-ended (f .gateway) gateway-15))
       e
-      (passed-step (stateOf r) f e q .1)
+      (passed-step s f e q .1)
 
   -- and they are few bytes
   pub every-small : length (bytesOf written (recordsOf e)) ≤ 512
   every-small =
-      came (stateOf r) f (λ x. length (bytesOf written (recordsOf x)) ≤ 512)
+      came s f (λ x. length (bytesOf written (recordsOf x)) ≤ 512)
       (λ k. omega (arith, length-one (f .gateway) kind.slot-captured))
       (λ k n m. let a = drop (neededOf (statusOf f)) (f .payload) in omega (arith, length-slot (f .gateway) n m a, space-small a, length-drop (neededOf (statusOf f)) (f .payload), payload-250))
-      (λ k c v. let l = command-small r (keyOf f) c (rows .0) v in omega (arith, length-one (f .gateway) (kind.command (c .kind) (c .payload) (getD (f .payload) 3 0) (drop 5 (f .payload))), length-command (c .kind) (getD (f .payload) 3 0) (c .payload) (drop 5 (f .payload)), length-drop 5 (f .payload), payload-250))
+      (λ k c v. let l = small (rows .0) (keyOf f) c v in omega (arith, length-one (f .gateway) (kind.command (c .kind) (c .payload) (getD (f .payload) 3 0) (drop 5 (f .payload))), length-command (c .kind) (getD (f .payload) 3 0) (c .payload) (drop 5 (f .payload)), length-drop 5 (f .payload), payload-250))
       (λ k. omega (arith, length-one (gatewayOf (addressOf (be16At (f .payload) 4))) kind.enumeration-started))
       (λ k. identity-small)
       (λ k. identity-small)
       (λ k. omega (arith, length-one (f .gateway) (kind.version-text (f .payload)), payload-250))
       (λ k. omega (arith, length-one (f .gateway) kind.enumeration-ended))
       e
-      (passed-step (stateOf r) f e q .1)
+      (passed-step s f e q .1)
     where
       identity-small : length (bytesOf written (recordsOf (identity (f .gateway) (take 8 (f .payload))))) ≤ 512
       identity-small = let n : length (take 8 (f .payload)) ≤ 8 = simp length-take (omega arith) in omega (arith, length-one (f .gateway) (kind.identity (take 8 (f .payload))))

@@ -1,14 +1,16 @@
--- What an answer of the transport step says, and how much room is left. Assumes nothing.
+-- What an answer of the transport step says, the log of frames, and how much room is left. Assumes nothing.
 use Prim.Native.Nat.{ℕ, _-_}
 use mathlib.Core.Bool.{cond}
-use mathlib.Core.List.{List}
+use mathlib.Core.List.{List, [], _∷_, _++_}
 use mathlib.Core.Option.{Option, none, some}
 use lib.ListN.{take, drop}
 use lib.Dec.{ltb}
 use Rattle.transport_receiver.specs.Lent.{requestPayload}
-use Rattle.transport_receiver.specs.Step.{Event, enumeration-started, identity, version, enumeration-ended, slot-captured, slot-counter, command, Outcome, refused, short, silent, event}
+use Rattle.transport_receiver.specs.Step.{Event, enumeration-started, identity, version, enumeration-ended, slot-captured, slot-counter, command, Outcome, refused, short, silent, event, stepOf}
+use Rattle.transport_receiver.specs.State.{State, Frame}
 use Rattle.transport_receiver.specs.declared.Answer.{Answer}
 use Rattle.transport_receiver.specs.declared.Answer.the-variants.{OverLimit, InvalidGatewayID, WrongDirection, WrongLength, UnknownStatusType, TooShort, UnknownGateway, NumbersFull, SequencesFull, CommandsFull, NamesFrom, InvalidVersion, NoRequest, UnhandledType, PayloadTooLong, Counted, CommandKept, EnumerationStarted, IdentityObserved, VersionObserved, EnumerationEnded, SlotCounterCaptured, SlotCounterObserved, CommandExecuted}
+use Rattle.records.specs.Records.{Entry, recordsIn}
 use Rattle.records.specs.declared.Said.{Said}
 use Rattle.records.specs.declared.Said.the-variants as said
 use Rattle.records.specs.declared.Room.{Room}
@@ -62,6 +64,11 @@ eventOf (refused n) = none
 eventOf (short n) = none
 eventOf silent = none
 eventOf (event e) = some e
+
+-- the log of frames, one after another, from a state on
+abbrev pub logOf : State → List Frame → List Entry
+logOf s [] = []
+logOf s (f ∷ fs) = recordsIn (eventOf (stepOf s f .outcome)) ++ logOf (stepOf s f .state) fs
 
 -- what is left of a room after so many bytes
 unfoldable pub roomAfter : ℕ → ℕ → Room
