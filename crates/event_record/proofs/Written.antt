@@ -42,10 +42,6 @@ module _ (v kind g : ℕ) (body : List ℕ) where
   soundAt-framed h =
       sound-body v (framed v kind g body) (omega (arith, div-add-mod' (4 + length body) 256)) refl (omega arith) (omega (arith, div-add-mod' g 256))
 
-  pub soundAt-framed-gateway : 0x7fff < g → soundAt v (framed v kind g body) ≡ false
-  unfolding framed
-  soundAt-framed-gateway h = not-sound v (framed v kind g body) (λ p. omega (arith, p .gateway, div-add-mod' g 256))
-
 -- the head laid down, and then the body behind it
 pub framed-laid : (kind g n : ℕ) (body out d e : List ℕ) → n ≡ length body → d ≡ laidOver (headOf written kind g n) out → e ≡ laidAt 6 body d
     → e ≡ laidOver (framed written kind g body) out

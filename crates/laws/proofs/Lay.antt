@@ -13,10 +13,6 @@ use Rattle.laws.specs.Bytes.{laidOver}
 pub length-laidOver : (xs out : List ℕ) → length xs ≤ length out → length (laidOver xs out) ≡ length out
 length-laidOver xs out h = simp (length-append, length-drop) (omega arith)
 
--- one byte more, stored behind what is written
-pub laidOver-set : (xs out : List ℕ) (b : ℕ) → length xs < length out → set (laidOver xs out) (length xs) b ≡ laidOver (xs ++ (b ∷ [])) out
-laidOver-set xs out b h = rw (drop-cons out (length xs) 0 h, set-append-seam, length-append, add-one, append-snoc)
-
 -- a piece laid over the part of the buffer behind what is written
 pub laidOver-append : (xs ys out : List ℕ) → xs ++ laidOver ys (drop (length xs) out) ≡ laidOver (xs ++ ys) out
 laidOver-append xs ys out = rw (drop-drop, length-append, append-assoc)

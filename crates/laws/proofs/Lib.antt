@@ -3,3 +3,4 @@ pub mod Bits
 pub mod Lay
 pub mod Bytes
 pub mod Linear
+pub mod Cases

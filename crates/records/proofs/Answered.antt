@@ -22,7 +22,8 @@ use Rattle.transport_receiver.specs.declared.Receiver.{Receiver}
 use Rattle.transport_receiver.specs.declared.Stepped.{Stepped}
 use Rattle.transport_receiver.specs.declared.Answer.{Answer}
 use Rattle.transport_receiver.specs.declared.Answer.the-variants.{OverLimit, InvalidGatewayID, WrongDirection, WrongLength, UnknownStatusType, TooShort, UnknownGateway, NumbersFull, SequencesFull, CommandsFull, NamesFrom, InvalidVersion, NoRequest, UnhandledType, PayloadTooLong, Counted, CommandKept, EnumerationStarted, IdentityObserved, VersionObserved, EnumerationEnded, SlotCounterCaptured, SlotCounterObserved, CommandExecuted}
-use Rattle.transport_receiver.proofs.Pool.{by, overLimit-places}
+use Rattle.transport_receiver.proofs.Pool.{overLimit-places}
+use Rattle.laws.proofs.Cases.{by}
 use Rattle.transport_receiver.proofs.Refines.{Sized, refines}
 use Rattle.records.specs.Records.{Entry, entryBytes, recordsOf, recordsIn, bytesOf, recordsHanded}
 use Rattle.records.specs.Answers.{eventIn, eventOf}

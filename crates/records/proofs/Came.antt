@@ -8,6 +8,7 @@ use native.Mathlib.Omega.{arith}
 use lib.ListN.{take, drop, getD}
 use lib.Dec.{eqb}
 use borrow.Author.Tests.{eqb-true}
+use Rattle.laws.proofs.Cases.{by, never}
 use Rattle.laws.specs.Bytes.{be16At}
 use Rattle.address.specs.Address.{gatewayOf, addressOf}
 use Rattle.transport.specs.Status.{neededOf}
@@ -16,7 +17,6 @@ use Rattle.transport_receiver.specs.Types
 use Rattle.transport_receiver.specs.State.{State, Frame, Command}
 use Rattle.transport_receiver.specs.Step.{Event, enumeration-started, identity, version, enumeration-ended, slot-captured, slot-counter, command, silent, event, Row, rowsOfAny, rowsOfType, judged, accepted, executedOf, stepOf, keyOf, statusOf}
 use Rattle.transport_receiver.specs.Reached.{isRefusal}
-use Rattle.transport_receiver.proofs.Pool.{by}
 
 abbrev pub NoneHolds : List Row → Type 0
 NoneHolds [] = Unit {0}
@@ -26,14 +26,11 @@ abbrev Refusals : List Row → Type 0
 Refusals [] = Unit {0}
 Refusals (r ∷ rs) = (isRefusal (r .outcome) ≡ true) × Refusals rs
 
-untrue : {P : Type 0} → false ≡ true → P
-untrue e = absurd (let z : _≡_ {A = ℕ} 0 1 = cc in omega arith)
-
 passed : (rows : List Row) (s : State) (f : Frame) (e : Event) → Refusals rows → judged rows s f .outcome ≡ event e → NoneHolds rows × (accepted s f .outcome ≡ event e)
 passed [] s f e n q = (tt, q)
 passed (r ∷ rs) s f e n q =
     by (r .holds)
-    (λ t. let u : r .outcome ≡ event e = rw t at q in untrue (sym (ap isRefusal u) ∙ n .0))
+    (λ t. let u : r .outcome ≡ event e = rw t at q in never (sym (ap isRefusal u) ∙ n .0))
     (λ t. let u = passed rs s f e (n .1) (rw t at q) in ((t, u .0), u .1))
 
 -- the rows of 01's table, in order

@@ -30,7 +30,8 @@ use Rattle.transport_receiver.specs.Types
 use Rattle.transport_receiver.specs.State.{State, Frame, Command, commandIn, stateOf}
 use Rattle.transport_receiver.specs.Step.{Event, identity, event, stepOf, overLimit, keyOf, statusOf}
 use Rattle.transport_receiver.specs.declared.Receiver.{Receiver}
-use Rattle.transport_receiver.proofs.Pool.{by, overLimit-places}
+use Rattle.transport_receiver.proofs.Pool.{overLimit-places}
+use Rattle.laws.proofs.Cases.{by}
 use Rattle.records.specs.Records.{Entry, entry, recordsOf, bytesOf, anyOver, anyUnsound}
 use Rattle.records.proofs.Areas.{none-over, none-unsound, space-small}
 use Rattle.records.proofs.Writes.{length-slot}

@@ -15,7 +15,7 @@ use Rattle.transport_receiver.specs.Types
 use Rattle.transport_receiver.specs.State.{State, Frame, Command, stateOf, fresh}
 use Rattle.transport_receiver.specs.Step.{Outcome, silent, event, Row, judged, accepted, stepOf, overLimit, keyOf, requestOf}
 use Rattle.transport_receiver.specs.Step as step
-use Rattle.transport_receiver.proofs.Pool.{by}
+use Rattle.laws.proofs.Cases.{by}
 use Rattle.records.specs.Records.{recordsIn, bytesOf, anyUnsound}
 use Rattle.records.specs.Answers.{eventOf, logOf}
 use Rattle.records.proofs.Came.{rowsOf}

@@ -42,14 +42,6 @@ first-first (x ∷ xs) k i h e = go (eqb x k) refl (first-first xs k) i h e
     go false q r zero h e = eqb-false x k q e
     go false q r (suc i) h e = r i (omega arith) e
 
-pub seat-le : (l : List ℕ) (k : ℕ) → seatOf l k ≤ length l
-unfolding seatOf
-seat-le l k = go (ltb (firstOf l k) (length l)) (first-le l k) (first-le l 0)
-  where
-    go : (t : Bool) → firstOf l k ≤ length l → firstOf l 0 ≤ length l → cond t (firstOf l k) (firstOf l 0) ≤ length l
-    go true a b = a
-    go false a b = b
-
 -- one step of the search, and its end: `find` cites these
 pub first-here : (l : List ℕ) (k i : ℕ) → i < length l → getD l i 0 ≡ k → firstOf (drop i l) k ≡ 0
 unfolding firstOf

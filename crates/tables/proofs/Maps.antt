@@ -9,16 +9,10 @@ use lib.ListN.{length, getD, set, length-set, List·getD-eq-default}
 use lib.Seq.{getD-set-same, getD-set-other, set-out}
 use lib.Dec.{eqb, ltb}
 use borrow.Author.Tests.{eqb-true, eqb-false, eq-eqb, ne-eqb, lt-ltb, le-ltb, ltb-true, ltb-false}
+use Rattle.laws.proofs.Cases.{by, never}
 use Rattle.tables.specs.Places.{Place, free, held, holds, isFree, firstWith, holder, isHeld, vacancy, hasRoom, seat, stored, removed, valueIn, valueAt, Distinct, inserted, deleted}
 
 -- a claim proved for either value of a test
-pub by : {P : Type 0} (b : Bool) → (b ≡ true → P) → (b ≡ false → P) → P
-by true t f = t refl
-by false t f = f refl
-
-never : {P : Type 0} → false ≡ true → P
-never e = absurd (let z : _≡_ {A = ℕ} 0 1 = cc in omega arith)
-
 module _ {A : Type 0} where
   module _ (test : Place A → Bool) where
     firstWith-le : (ps : List (Place A)) → firstWith test ps ≤ length ps

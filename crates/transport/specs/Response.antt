@@ -44,10 +44,6 @@ receiveReadOf p old =
     (Response (responseIn (be16At p 0) p old) (neededOf (be16At p 0))))
     (UnknownStatusType (be16At p 0)))
 
--- 01: the rest is the packet area, handed on as that part of the payload
-abbrev pub areaIn : ℕ → List ℕ → List ℕ
-areaIn status p = drop (neededOf status) p
-
 -- a number of 01's table and the value that goes with it, or the fields and where the packet area starts
 pub data Told : Type 0 where
   refused : ℕ → ℕ → Told

@@ -5,6 +5,7 @@ use mathlib.Core.Bool.{Bool, true, false, cond}
 use mathlib.Core.List.{List}
 use native.Mathlib.Omega.{arith}
 use lib.Dec.{eqb}
+use Rattle.laws.proofs.Cases.{never}
 use Rattle.transport_receiver.specs.State.{Frame}
 use Rattle.transport_receiver.specs.Step.{Outcome, refused, short, silent, event}
 use Rattle.transport_receiver.specs.Reached.{isRefusal}
@@ -34,9 +35,6 @@ refusalOf (short n) = TooShort n
 refusalOf silent = Counted
 refusalOf (event e) = Counted
 
-untrue : {P : Type 0} → false ≡ true → P
-untrue e = absurd (let z : _≡_ {A = ℕ} 0 1 = cc in omega arith)
-
 refusalOf-handed : (pool : List ℕ) (f : Frame) (a : Answer) → isRefusal (handed pool f a) ≡ true → refusalOf (handed pool f a) ≡ a
 unfolding refusalOf
 refusalOf-handed pool f OverLimit e = refl
@@ -54,15 +52,15 @@ refusalOf-handed pool f NoRequest e = refl
 refusalOf-handed pool f UnhandledType e = refl
 refusalOf-handed pool f PayloadTooLong e = refl
 refusalOf-handed pool f (TooShort needed) e = refl
-refusalOf-handed pool f Counted e = untrue e
-refusalOf-handed pool f CommandKept e = untrue e
-refusalOf-handed pool f (EnumerationStarted gateway) e = untrue e
-refusalOf-handed pool f IdentityObserved e = untrue e
-refusalOf-handed pool f VersionObserved e = untrue e
-refusalOf-handed pool f EnumerationEnded e = untrue e
-refusalOf-handed pool f SlotCounterCaptured e = untrue e
-refusalOf-handed pool f (SlotCounterObserved number slot repeat area) e = untrue e
-refusalOf-handed pool f (CommandExecuted place request length response) e = untrue e
+refusalOf-handed pool f Counted e = never e
+refusalOf-handed pool f CommandKept e = never e
+refusalOf-handed pool f (EnumerationStarted gateway) e = never e
+refusalOf-handed pool f IdentityObserved e = never e
+refusalOf-handed pool f VersionObserved e = never e
+refusalOf-handed pool f EnumerationEnded e = never e
+refusalOf-handed pool f SlotCounterCaptured e = never e
+refusalOf-handed pool f (SlotCounterObserved number slot repeat area) e = never e
+refusalOf-handed pool f (CommandExecuted place request length response) e = never e
 
 -- two answers to a frame that hand back the same refusal are the same
 pub handed-apart : (pool : List ℕ) (f : Frame) (a b : Answer) → isRefusal (handed pool f a) ≡ true → handed pool f a ≡ handed pool f b → a ≡ b

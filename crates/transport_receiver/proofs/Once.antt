@@ -8,17 +8,14 @@ use native.Mathlib.Omega.{arith}
 use lib.ListN.{length}
 use lib.Dec.{eqb, ltb}
 use borrow.Author.Tests.{eqb-true, eqb-false}
+use Rattle.laws.proofs.Cases.{by, never}
 use Rattle.tables.specs.Places.{isHeld, valueAt, removed, stored, Distinct}
 use Rattle.tables.proofs.Maps.{valueAt-stored-other, valueAt-removed-unheld, unheld-valueAt, valueAt-unheld, isHeld-removed}
 use Rattle.transport_receiver.specs.Types
 use Rattle.transport_receiver.specs.State.{State, Frame, Command}
 use Rattle.transport_receiver.specs.Step.{Event, Outcome, refused, short, silent, event, Result, Row, rowsOfAny, rowsOfType, judged, accepted, executedOf, stepOf, overLimit, keyOf, requestOf}
 use Rattle.transport_receiver.specs.Reached.{Since, here, on, isRefusal, SameTables}
-use Rattle.transport_receiver.proofs.Pool.{by}
 use Rattle.transport_receiver.proofs.Reached.{clash}
-
-untrue : {P : Type 0} → false ≡ true → P
-untrue e = absurd (let z : _≡_ {A = ℕ} 0 1 = cc in omega arith)
 
 module _ (s : State) (f : Frame) where
   executed-silent : (o : Option Command) → isRefusal (executedOf o f) ≡ false
@@ -40,7 +37,7 @@ module _ (s : State) (f : Frame) where
       (λ e9. rw (e1, e2, e3, e4, e5, e6, e7, e8, e9))))))))))
 
   quiet-judged : (rows : List Row) → isRefusal (judged rows s f .outcome) ≡ true → SameTables s (judged rows s f .state)
-  quiet-judged [] n = untrue (sym accepted-no-refusal ∙ n)
+  quiet-judged [] n = never (sym accepted-no-refusal ∙ n)
   quiet-judged (r ∷ rs) n = by (r .holds) (λ e. rw e (record { numbers = refl; sequences = refl; commands = refl })) (λ e. rw e (quiet-judged rs (rw e at n)))
 
   -- no refusal touches a table

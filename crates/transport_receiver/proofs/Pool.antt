@@ -8,6 +8,7 @@ use lib.ListN.{length, getD, set, take, drop, length-take, length-drop, length-a
 use lib.Seq.{paste, length-paste, drop-paste, take-paste, getD-take, getD-drop, getD-set-same, getD-set-other, take-all, take-length, length-take-le, drop-at, take-at, drop-drop, ext-getD}
 use lib.Dec.{eqb, ltb}
 use borrow.Author.Tests.{eqb-true, eqb-false, eq-eqb, ne-eqb, lt-ltb, le-ltb, ltb-true, ltb-false}
+use Rattle.laws.proofs.Cases.{by}
 use Rattle.tables.specs.Keys.{firstOf, seatOf, overOf}
 use Rattle.tables.specs.Places.{Place, free, held, placeOf, placesFrom, placesOf, stored}
 use Rattle.tables.proofs.Places.{stored-places}
@@ -15,10 +16,6 @@ use Rattle.transport_receiver.specs.State.{Command, commandKey, commandI
 use Rattle.transport_receiver.specs.Step.{isOver, overLimit}
 
 -- a claim proved for either value of a test
-pub by : {P : Type 0} (b : Bool) → (b ≡ true → P) → (b ≡ false → P) → P
-by true t f = t refl
-by false t f = f refl
-
 -- what is pasted changes no element before it and none behind it
 module _ (d : List ℕ) (at : ℕ) (s : List ℕ) (n : ℕ) (fits : at + n ≤ length d) (has : n ≤ length s) where
   parts : paste d at s n ≡ take at d ++ (take n s ++ drop (at + n) d)

@@ -16,7 +16,7 @@ use Rattle.transport_receiver.specs.Types
 use Rattle.transport_receiver.specs.State.{State, Frame, Command, stateOf, fresh}
 use Rattle.transport_receiver.specs.Step.{Event, Outcome, refused, event, Result, Row, rowsOfAny, rowsOfType, judged, accepted, stepOf, isOver, overLimit, keyOf, statusOf, numberIn, sequenceOf, requestOf}
 use Rattle.transport_receiver.specs.Reached.{Reached, start, on, AllDistinct}
-use Rattle.transport_receiver.proofs.Pool.{by}
+use Rattle.laws.proofs.Cases.{by}
 
 -- a table with no key at all
 zero-at : (n i : ℕ) → _≡_ {A = ℕ} (getD (replicate n 0) i 0) 0

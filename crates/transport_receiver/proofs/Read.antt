@@ -13,7 +13,7 @@ use Rattle.transport.specs.declared.ReceiveRead.{ReceiveRead}
 use Rattle.transport.specs.declared.ReceiveRead.the-variants.{Response, TooShort, UnknownStatusType}
 use Rattle.transport.specs.Status.{acceptedOf, neededOf}
 use Rattle.transport.specs.Response.{receiveReadOf, responseIn}
-use Rattle.transport_receiver.proofs.Pool.{by}
+use Rattle.laws.proofs.Cases.{by}
 
 -- `known_response` cites this where it takes the packet area
 pub response-fits : (p : List ℕ) (old : ℕ) (r : ReceiveResponse) (area : ℕ) → receiveReadOf p old ≡ Response r area → area ≤ length p

@@ -25,7 +25,8 @@ use Rattle.transport_receiver.specs.Step.{Result, stepOf, handledOf, isL
 use Rattle.transport_receiver.specs.Handed.{told}
 use Rattle.transport_receiver.specs.Lent.{receiveRequestIn, identityIn, enumerationEndIn, versionIn, enumerationStartIn, isLastIn, noteIn, keepIn, commandRequestIn, commandResponseIn, receiveResponseIn, goodIn, notedOf, seatedOf, afterAsked, afterCounted, afterRequested, afterAnswered, afterReceived, countIn, untabledIn, handledIn, stepIn}
 use Rattle.transport_receiver.specs.declared.Receiver.{Receiver}
-use Rattle.transport_receiver.proofs.Pool.{by, overLimit-places, stored-commands}
+use Rattle.transport_receiver.proofs.Pool.{overLimit-places, stored-commands}
+use Rattle.laws.proofs.Cases.{by}
 
 -- the arrays' lengths, as their types have them
 pub record Sized (r : Receiver) : Type 0 where

@@ -19,7 +19,7 @@ use Rattle.transport_receiver.specs.Step.{Event, Outcome, refused, event
 use Rattle.transport_receiver.specs.Reached.{AllDistinct}
 use Rattle.transport_receiver.specs.Source.{Maps, noted, answered, requested, sourceOf, isAdded, Agree, noEntries, Follows, start, on}
 use Rattle.transport_receiver.specs.Reached as reached
-use Rattle.transport_receiver.proofs.Pool.{by}
+use Rattle.laws.proofs.Cases.{by}
 use Rattle.transport_receiver.proofs.Reached.{all-free-at, distinct-step, distinct-reached}
 
 untrue : {P : Type 0} → true ≡ false → P
