@@ -11,7 +11,7 @@ use link_receive::Tallies;
 fn receiver_at(place: [u64; 10], body: [u8; 256]) -> Receiver
     ensures { λ r. ⌜ r ≡ receiverAt place body ⌝ }
 {
-    let state = link_receive::state_at(place[0]);
+    let state = link_receive::lending::state_at(place[0]);
     Receiver {
         state: state,
         body: body,
@@ -35,7 +35,7 @@ fn place_of(r: Receiver) -> [u64; 10]
 {
     let state = r.state;
     let t = r.tallies;
-    let n = link_receive::state_number(state);
+    let n = link_receive::lending::state_number(state);
     [
         n,
         r.len as u64,
@@ -126,7 +126,7 @@ pub extern "C" fn johkkesir_feed(
     ensures { λ _. ⌜ now (body .exit) ≡ fedAt (now (place .entry)) (now (body .entry)) (now (s .entry)) .next .body ⌝ }
     ensures { λ _. ⌜ now (found .exit) ≡ foundOf (fedAt (now (place .entry)) (now (body .entry)) (now (s .entry)) .taken) (fedAt (now (place .entry)) (now (body .entry)) (now (s .entry)) .answer) ⌝ }
 {
-    let f = link_receive::feed_in(place, body, s);
+    let f = link_receive::lending::feed_in(place, body, s);
     let answer = f.answer;
     let news = found_by(f.taken as u64, answer);
     *found = news;

@@ -15,7 +15,7 @@ use Rattle.runs.specs.Runs.{isOf, lead, All, laid}
 use Rattle.runs.proofs.Laws.{copy-room, copy-placed, copy-all, length-laid, laid-paste}
 use Rattle.runs.specs.declared.Sort.the-variants as sort
 use Rattle.link_receive.specs.declared.State.{State}
-use Rattle.link_receive.specs.declared.State.the-variants.{Idle, Noise, StartOfFrame, Frame, FrameEscape, Giant}
+use Rattle.link_receive.specs.declared.State.the-variants.{Idle, Noise, StartOfFrame, Frame, FrameEscape, Giant, GiantEscape}
 use Rattle.link_receive.specs.declared.Tally.the-variants as tally
 use Rattle.link_receive.specs.declared.Tallies.{Tallies}
 use Rattle.link_receive.specs.declared.Move.{Move}
@@ -24,7 +24,8 @@ use Rattle.link_receive.specs.Step.{limit, outsideOf, turnOf}
 use Rattle.link_receive.specs.Feed.{feedFrom}
 use Rattle.link_receive.specs.declared.Place.{Place}
 use Rattle.link_receive.specs.declared.Fed.{Fed}
-use Rattle.link_receive.specs.Advance.{madeOf, Ahead}
+use Rattle.link_receive.specs.Advance.{madeOf, Ahead, Skips, Skipped}
+use Rattle.link_receive.proofs.Turns.{tailOf-other}
 use Rattle.link_receive.proofs.Steps.{stepOf-within}
 use Rattle.link_receive.proofs.Feeds.{Feeding, feedFrom-more}
 
@@ -65,6 +66,15 @@ turnOf-pair : (len b : ℕ) → b ≡ 0x7e → turnOf Frame len b ≡ To FrameEs
 unfolding turnOf
 turnOf-pair len b e = rw e
 
+-- in the tail: 7e begins a pair, and one that neither opens nor closes leads back
+turnOf-tail-pair : (len b : ℕ) → b ≡ 0x7e → turnOf Giant len b ≡ To GiantEscape
+unfolding turnOf
+turnOf-tail-pair len b e = rw e
+
+turnOf-tail-other : (len b : ℕ) → (b ≡ 0x07 → ⊥) → (b ≡ 0x08 → ⊥) → turnOf GiantEscape len b ≡ To Giant
+unfolding turnOf
+turnOf-tail-other len b h g = sym (tailOf-other b h g)
+
 abbrev pub placeOf : ℕ → ℕ → Place
 placeOf len i = record { len = len; at = i }
 
@@ -92,6 +102,35 @@ module _ (check : List ℕ → ℕ) (s : List ℕ) where
       ap (λ (n : ℕ). feedFrom check r (drop n s) n) (next i m)
       ∙ feedFrom-more check r r s (i + m) (omega (arith, next i m)) (stepOf-within check r (getD s (i + m) 0) (To state) h (turns (getD s (i + m) 0) (a m (less m))))
       ∙ feedFrom-stays state p len turns h body t i m (omega (arith, next i m)) (λ k u. a k (more k m u))
+
+  -- what the tail has skipped: nothing yet, a run more, a pair more
+  pub skipped-none : (i : ℕ) → i ≤ length s → Skipped check s i i
+  skipped-none i h = record { placed = h; further = omega arith; same = λ body len t l. refl }
+
+  module _ (i₀ i : ℕ) (k : Skipped check s i₀ i) where
+    pub skipped-run : (m : ℕ) → i + m ≤ length s → All (isOf sort.Raw) s i m → Skipped check s i₀ (i + m)
+    skipped-run m h a =
+        record {
+          placed = h;
+          further = omega (arith, k .further);
+          same = λ body len t l. feedFrom-stays Giant (isOf sort.Raw) len (turnOf-tail len) l body t i m h a ∙ k .same body len t l;
+        }
+
+    pub skipped-pair : Skips s i → Skipped check s i₀ (i + 2)
+    skipped-pair p =
+        record {
+          placed = p .whole;
+          further = omega (arith, k .further);
+          same =
+              λ body len t l.
+              let r = madeOf Giant body len t in
+              let q = madeOf GiantEscape body len t in
+              let w : i + 2 ≤ length s = p .whole in
+              ap (λ (n : ℕ). feedFrom check r (drop n s) n) (two i)
+              ∙ feedFrom-more check q r s (i + 1) (omega arith) (stepOf-within check q (getD s (i + 1) 0) (To Giant) l (turnOf-tail-other len (getD s (i + 1) 0) (p .no-opener) (p .no-closer)))
+              ∙ feedFrom-more check r q s i (omega arith) (stepOf-within check r (getD s i 0) (To GiantEscape) l (turnOf-tail-pair len (getD s i 0) (p .first)))
+              ∙ k .same body len t l;
+        }
 
   -- raw bytes of an open frame, as far as there is room
   pub feedFrom-units :

@@ -4,7 +4,7 @@ use Prim.Native.Nat.{ℕ, _+_, _≤_, _<_}
 use mathlib.Core.List.{List}
 use lib.ListN.{length, getD, drop}
 use Rattle.link_receive.specs.declared.State.{State}
-use Rattle.link_receive.specs.declared.State.the-variants.{Idle, Frame}
+use Rattle.link_receive.specs.declared.State.the-variants.{Idle, Frame, Giant}
 use Rattle.link_receive.specs.declared.Tallies.{Tallies}
 use Rattle.link_receive.specs.declared.Answer.{Answer}
 use Rattle.link_receive.specs.declared.Answer.the-variants as answer
@@ -44,6 +44,13 @@ pub record Stands (s : List ℕ) (i code : ℕ) : Type 0 where
   pub first : getD s i 0 ≡ 0x7e
   pub second : getD s (i + 1) 0 ≡ code
 
+-- 7e and a byte that neither opens nor closes a frame stand at a place
+pub record Skips (s : List ℕ) (i : ℕ) : Type 0 where
+  pub whole : i + 2 ≤ length s
+  pub first : getD s i 0 ≡ 0x7e
+  pub no-opener : getD s (i + 1) 0 ≡ 0x07 → ⊥
+  pub no-closer : getD s (i + 1) 0 ≡ 0x08 → ⊥
+
 -- what a pair that is found tells: 7e 07 outside a frame, or 7e 08 inside one
 abbrev pub Paired : State → List ℕ → ℕ → Pair → Type 0
 Paired state s i Opener = (state ≡ Idle) × Stands s i 0x07
@@ -57,6 +64,14 @@ module _ (check : List ℕ → ℕ) where
     pub further : i ≤ p .at
     pub within : p .len ≤ limit
     pub same : (t : Tallies) → feedFrom check (madeOf state next (p .len) t) (drop (p .at) s) (p .at) ≡ feedFrom check (madeOf state body len t) (drop i s) i
+
+  -- the same in an overlong tail, whatever is held
+  pub record Skipped (s : List ℕ) (i j : ℕ) : Type 0 where
+    pub placed : j ≤ length s
+    pub further : i ≤ j
+    pub same :
+        (body : List ℕ) (len : ℕ) (t : Tallies) → len ≤ limit →
+        feedFrom check (madeOf Giant body len t) (drop j s) j ≡ feedFrom check (madeOf Giant body len t) (drop i s) i
 
   -- how feeding ends that stands at a place with an answer: it goes on after none, and stops at any other
   abbrev pub fedBy : List ℕ → Answer → Receiver → ℕ → Fed

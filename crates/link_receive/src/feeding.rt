@@ -7,7 +7,7 @@ ghost use Rattle.crc.specs.Crc.{crcOf};
 ghost use Rattle.link_receive.specs.Tally.{kindOf, raise, tallyPlace, talliesAt};
 ghost use Rattle.link_receive.specs.Step.{limit, parsedOf, closedOf, stepOf};
 ghost use Rattle.link_receive.specs.Feed.{feedFrom, feedOf};
-ghost use Rattle.link_receive.specs.Advance.{heldOf, steppedOf, stoodOf, fedOf, Ahead, Stands, Paired, Onward};
+ghost use Rattle.link_receive.specs.Advance.{heldOf, steppedOf, stoodOf, fedOf, Ahead, Skips, Skipped, Stands, Paired, Onward};
 use crate::Advanced;
 use crate::Answer;
 use crate::Move;
@@ -153,6 +153,41 @@ fn units(len0: usize, body: &mut [u8], s: &[u8], i0: usize) -> Place
     Place { len: len, at: i }
 }
 
+// Whether a pair that neither opens nor closes a frame stands at a place.
+fn skips(s: &[u8], i: usize) -> bool
+    requires { ⌜ i ≤ length (now s) ⌝ }
+    ensures { λ r. ⌜ (r ≡ true → Skips (now (s .entry)) i) ⌝ }
+{
+    if s.len() - i < 2 {
+        return false;
+    }
+    if s[i] != 0x7e {
+        return false;
+    }
+    let b = s[i + 1];
+    if b == 0x07 {
+        return false;
+    }
+    b != 0x08
+}
+
+// What an overlong tail skips, as far as the slice has it whole: raw bytes, and pairs that neither open nor close.
+fn tail(s: &[u8], i0: usize) -> usize
+    requires { ⌜ i0 ≤ length (now s) ⌝ }
+    ensures { λ r. ⌜ Skipped crcOf (now (s .entry)) i0 r ⌝ }
+{
+    let mut i = i0;
+    while i < s.len() {
+        let k = runs::run(Sort::Raw, s, i);
+        i += k;
+        if !skips(s, i) {
+            break;
+        }
+        i += 2;
+    }
+    i
+}
+
 // Many bytes at once, where all of them leave the state as it is: idle bytes, noise, what a tail skips, and units of an open frame.
 fn ahead(state: State, len: usize, body: &mut [u8], s: &[u8], i: usize) -> Place
     requires { ⌜ (len ≤ limit) × (length (now body) ≡ limit) × (i ≤ length (now s)) ⌝ }
@@ -175,11 +210,8 @@ fn ahead(state: State, len: usize, body: &mut [u8], s: &[u8], i: usize) -> Place
         }
         State::Frame => units(len, body, s, i),
         State::Giant => {
-            let k = runs::run(Sort::Raw, s, i);
-            Place {
-                len: len,
-                at: i + k,
-            }
+            let k = tail(s, i);
+            Place { len: len, at: k }
         }
         _ => Place { len: len, at: i },
     }

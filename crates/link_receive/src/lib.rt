@@ -1,22 +1,24 @@
 // The gateway link layer's receiver (link/receive.rs): bytes to frames. The receiver is a state handed in and handed back by each step.
 ghost use mathlib.Core.Path.{_≡_};
-ghost use Prim.Native.Nat.{_<_, _≤_};
-ghost use lib.ListN.{take};
 ghost use Rattle.crc.specs.Crc.{crcOf};
 ghost use Rattle.link_receive.specs.Tally.{kindOf, raise, numbersOf, talliesAt};
 ghost use Rattle.link_receive.specs.Frames.{payloadOf};
-ghost use Rattle.link_receive.specs.Step.{limit, openOf, toOf, pushedOf, countedOf, parsedOf, closedOf, stepOf, freshOf, resetOf};
+ghost use Rattle.link_receive.specs.Step.{openOf, stepOf, freshOf, resetOf};
 ghost use Rattle.link_receive.specs.Feed.{feedOf};
-ghost use Rattle.link_receive.specs.Lent.{stateAt, stateNumber, receiverAt, placeOf, fedInOf};
 ghost use Rattle.link_receive.specs.Drain.{extendOf};
 use address::Address;
+use by_value::closed;
+use by_value::counted;
+use by_value::pushed;
+use by_value::to;
 use feeding::advance;
 use feeding::fed;
 use link::Type;
-use moves::parse_frame;
 use moves::turn;
 
+mod by_value;
 mod feeding;
+pub mod lending;
 mod moves;
 
 // Where the receiver stands in the stream.
@@ -255,55 +257,6 @@ pub struct FedIn {
     pub taken: usize,
 }
 
-// The state of a number; any number above 5 stands for the last.
-pub fn state_at(n: u64) -> State
-    ensures { λ r. ⌜ r ≡ stateAt n ⌝ }
-{
-    match n {
-        0 => State::Idle,
-        1 => State::Noise,
-        2 => State::StartOfFrame,
-        3 => State::Frame,
-        4 => State::FrameEscape,
-        5 => State::Giant,
-        _ => State::GiantEscape,
-    }
-}
-
-// The number of a state.
-pub fn state_number(s: State) -> u64
-    ensures { λ r. ⌜ r ≡ stateNumber s ⌝ }
-{
-    match s {
-        State::Idle => 0,
-        State::Noise => 1,
-        State::StartOfFrame => 2,
-        State::Frame => 3,
-        State::FrameEscape => 4,
-        State::Giant => 5,
-        State::GiantEscape => 6,
-    }
-}
-
-// `Receiver::feed` over a receiver that is lent as ten numbers (state, length, tallies) and its body: for a loop that keeps them.
-pub fn feed_in(place: &mut [u64; 10], body: &mut [u8; 256], s: &[u8]) -> FedIn
-    ensures answer { λ r. ⌜ r ≡ fedInOf (feedOf crcOf (receiverAt (now (place .entry)) (now (body .entry))) (now (s .entry))) ⌝ }
-    ensures numbers { λ _. ⌜ now (place .exit) ≡ placeOf (feedOf crcOf (receiverAt (now (place .entry)) (now (body .entry))) (now (s .entry)) .next) ⌝ }
-    ensures units { λ _. ⌜ now (body .exit) ≡ feedOf crcOf (receiverAt (now (place .entry)) (now (body .entry))) (now (s .entry)) .next .body ⌝ }
-{
-    let state = state_at(place[0]);
-    let len = place[1] as usize;
-    let a = fed(state, len, place, body, s);
-    let next = a.state;
-    let answer = a.answer;
-    place[0] = state_number(next);
-    place[1] = a.len as u64;
-    FedIn {
-        answer: answer,
-        taken: a.at,
-    }
-}
-
 impl Receiver {
     pub const MAX_FRAME_SIZE: usize = 256;
 
@@ -316,82 +269,6 @@ impl Receiver {
             body: [0; 256],
             len: 0,
             tallies: Tallies::ZERO,
-        }
-    }
-
-    // In another state, nothing else changed.
-    fn to(self, state: State) -> Receiver
-        ensures { λ r. ⌜ r ≡ toOf self state ⌝ }
-    {
-        let body = self.body;
-        let tallies = self.tallies;
-        Receiver {
-            state: state,
-            body: body,
-            len: self.len,
-            tallies: tallies,
-        }
-    }
-
-    // With one unit more.
-    fn pushed(mut self, b: u8) -> Receiver
-        requires { ⌜ self .len < limit ⌝ }
-        ensures { λ r. ⌜ r ≡ pushedOf self b ⌝ }
-    {
-        let len = self.len;
-        self.body[len] = b;
-        Receiver {
-            state: State::Frame,
-            body: self.body,
-            len: len + 1,
-            tallies: self.tallies,
-        }
-    }
-
-    // With one counted and the body emptied.
-    fn counted(self, tally: Tally, state: State) -> Receiver
-        ensures { λ r. ⌜ r ≡ countedOf self (kindOf tally) state ⌝ }
-    {
-        let tallies = self.tallies;
-        let body = self.body;
-        Receiver {
-            state: state,
-            body: body,
-            len: 0,
-            tallies: tallies.raised(tally),
-        }
-    }
-
-    // With its frame closed.
-    fn closed(self) -> Stepped
-        requires { ⌜ self .len ≤ limit ⌝ }
-        ensures { λ r. ⌜ r ≡ closedOf self (parsedOf crcOf (take (self .len) (self .body))) ⌝ }
-    {
-        let len = self.len;
-        let body = self.body;
-        match parse_frame(&body[..len]) {
-            Parsed::Sound {
-                address,
-                frame_type,
-            } => {
-                let next = self.counted(Tally::Frames, State::Idle);
-                let answer = Answer::Frame {
-                    address: address,
-                    frame_type: frame_type,
-                    len: len - 6,
-                };
-                Stepped {
-                    next: next,
-                    answer: answer,
-                }
-            }
-            Parsed::Dropped(tally) => {
-                let next = self.counted(tally, State::Idle);
-                Stepped {
-                    next: next,
-                    answer: Answer::Nothing,
-                }
-            }
         }
     }
 
@@ -409,20 +286,20 @@ impl Receiver {
         let state = self.state;
         match turn(state, len, b) {
             Move::To(next) => {
-                self = self.to(next);
+                self = to(self, next);
             }
             Move::Push(d) => {
-                self = self.pushed(d);
+                self = pushed(self, d);
             }
             Move::Count(tally, next) => {
-                self = self.counted(tally, next);
+                self = counted(self, tally, next);
             }
             Move::Break => {
-                self = self.counted(Tally::Broken, State::Noise);
-                self = self.counted(Tally::Noise, State::Noise);
+                self = counted(self, Tally::Broken, State::Noise);
+                self = counted(self, Tally::Noise, State::Noise);
             }
             Move::Close => {
-                return self.closed();
+                return closed(self);
             }
         }
         Stepped {

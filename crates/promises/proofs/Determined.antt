@@ -46,12 +46,12 @@ use Rattle.link.proofs.encode.Kinds as link·encode·kinds
 use Rattle.link.proofs.encode.Reads as link·encode·reads
 use Rattle.link_receive.proofs.open_frames.Kinds as link-receive·open-frames·kinds
 use Rattle.link_receive.proofs.open_frames.Reads as link-receive·open-frames·reads
-use Rattle.link_receive.proofs.state_at.Kinds as link-receive·state-at·kinds
-use Rattle.link_receive.proofs.state_at.Reads as link-receive·state-at·reads
-use Rattle.link_receive.proofs.state_number.Kinds as link-receive·state-number·kinds
-use Rattle.link_receive.proofs.state_number.Reads as link-receive·state-number·reads
-use Rattle.link_receive.proofs.feed_in.Kinds as link-receive·feed-in·kinds
-use Rattle.link_receive.proofs.feed_in.Reads as link-receive·feed-in·reads
+use Rattle.link_receive.proofs.lending.state_at.Kinds as link-receive·lending·state-at·kinds
+use Rattle.link_receive.proofs.lending.state_at.Reads as link-receive·lending·state-at·reads
+use Rattle.link_receive.proofs.lending.state_number.Kinds as link-receive·lending·state-number·kinds
+use Rattle.link_receive.proofs.lending.state_number.Reads as link-receive·lending·state-number·reads
+use Rattle.link_receive.proofs.lending.feed_in.Kinds as link-receive·lending·feed-in·kinds
+use Rattle.link_receive.proofs.lending.feed_in.Reads as link-receive·lending·feed-in·reads
 use Rattle.link_receive.proofs.Receiver.new.Kinds as link-receive·Receiver·new·kinds
 use Rattle.link_receive.proofs.Receiver.new.Reads as link-receive·Receiver·new·reads
 use Rattle.link_receive.proofs.Receiver.push_u8.Kinds as link-receive·Receiver·push-u8·kinds
@@ -236,14 +236,14 @@ link·encode κs a x y u v p q = (handed-same x y (p .0 ∙ sym (q .0)), cc)
 pub link-receive·open-frames : Determined 0 link-receive·open-frames·kinds.ps link-receive·open-frames·kinds.r link-receive·open-frames·reads.Learnt
 link-receive·open-frames κs a x y u v p q = (p ∙ sym q, refl)
 
-pub link-receive·state-at : Determined 0 link-receive·state-at·kinds.ps link-receive·state-at·kinds.r link-receive·state-at·reads.Learnt
-link-receive·state-at κs a x y u v p q = (p ∙ sym q, refl)
+pub link-receive·lending·state-at : Determined 0 link-receive·lending·state-at·kinds.ps link-receive·lending·state-at·kinds.r link-receive·lending·state-at·reads.Learnt
+link-receive·lending·state-at κs a x y u v p q = (p ∙ sym q, refl)
 
-pub link-receive·state-number : Determined 0 link-receive·state-number·kinds.ps link-receive·state-number·kinds.r link-receive·state-number·reads.Learnt
-link-receive·state-number κs a x y u v p q = (p ∙ sym q, refl)
+pub link-receive·lending·state-number : Determined 0 link-receive·lending·state-number·kinds.ps link-receive·lending·state-number·kinds.r link-receive·lending·state-number·reads.Learnt
+link-receive·lending·state-number κs a x y u v p q = (p ∙ sym q, refl)
 
-pub link-receive·feed-in : Determined 3 link-receive·feed-in·kinds.ps link-receive·feed-in·kinds.r link-receive·feed-in·reads.Learnt
-link-receive·feed-in κs a x y u v p q = (p .0 ∙ sym (q .0), cc)
+pub link-receive·lending·feed-in : Determined 3 link-receive·lending·feed-in·kinds.ps link-receive·lending·feed-in·kinds.r link-receive·lending·feed-in·reads.Learnt
+link-receive·lending·feed-in κs a x y u v p q = (p .0 ∙ sym (q .0), cc)
 
 pub link-receive·Receiver·new : Determined 0 link-receive·Receiver·new·kinds.ps link-receive·Receiver·new·kinds.r link-receive·Receiver·new·reads.Learnt
 link-receive·Receiver·new κs a x y u v p q = (p ∙ sym q, refl)

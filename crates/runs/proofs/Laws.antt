@@ -9,7 +9,7 @@ use native.Mathlib.Omega.{arith}
 use borrow.Author.Tests.{ltb-true, ltb-false}
 use lib.Dec.{ltb}
 use lib.ListN.{length, getD, set, take, drop, length-set, length-take, length-drop, drop-of-length-le}
-use lib.Seq.{getD-take, getD-drop, take-nil, paste, paste-zero, paste-suc}
+use lib.Seq.{getD-take, getD-drop, getD-set-same, getD-set-other, take-nil, paste, paste-zero, paste-suc}
 use Rattle.runs.specs.Runs.{lead, All, laid}
 
 split : {P : Type 0} (a b : ℕ) (t : Bool) → ltb a b ≡ t → (a < b → P) → (b ≤ a → P) → P
@@ -27,6 +27,15 @@ pub all-add : (p : ℕ → Bool) (s : List ℕ) (i m n : ℕ) → All p s i m �
 all-add p s i m n f g k h =
     cases {P = p (getD s (i + k) 0) ≡ true} k m (λ u. f k u)
     (λ u. subst (λ (x : ℕ). p (getD s x 0) ≡ true) (place i m k u) (g (k - m) (omega arith)))
+
+-- one byte more of those that are read before they are written: `copy8` cites this
+pub copied-more :
+    (t s : List ℕ) (i k : ℕ) → k < length t → ((q : ℕ) → q < k → getD t q 0 ≡ getD s (i + q) 0) →
+    (q : ℕ) → q < k + 1 → getD (set t k (getD s (i + k) 0)) q 0 ≡ getD s (i + q) 0
+copied-more t s i k h f q u =
+    cases {P = getD (set t k (getD s (i + k) 0)) q 0 ≡ getD s (i + q) 0} q k
+    (λ v. getD-set-other t k q (getD s (i + k) 0) 0 (λ e. absurd (omega arith)) ∙ f q v)
+    (λ v. let e : q ≡ k = omega arith in rw e (getD-set-same t k (getD s (i + k) 0) 0 h))
 
 -- a run of a list is as long as it goes
 lead-is : (p : ℕ → Bool) (xs : List ℕ) (m : ℕ) → m ≤ length xs → ((k : ℕ) → k < m → p (getD xs k 0) ≡ true) → (m < length xs → p (getD xs m 0) ≡ false) → lead p xs ≡ m

@@ -80,6 +80,10 @@ fn idle8(s: &[u8], i: usize) -> bool
     requires { ⌜ i + 8 ≤ length (now s) ⌝ }
     ensures { λ r. ⌜ (r ≡ true → All idle (now (s .entry)) i 8) ⌝ }
 {
+    // Idle bytes between frames are few: the last of the eight tells so at once.
+    if !is_idle(s[i + 7]) {
+        return false;
+    }
     let mut e: u8 = 0;
     let mut k = 0;
     while k < 8 {
@@ -211,15 +215,21 @@ pub fn run(sort: Sort, s: &[u8], i: usize) -> usize
     m
 }
 
-// Copies the eight bytes of s at i to d at l.
+// Copies the eight bytes of s at i to d at l: all are read before one is written, so that they go as one.
 fn copy8(d: &mut [u8], l: usize, s: &[u8], i: usize)
     requires { ⌜ (i + 8 ≤ length (now s)) × (l + 8 ≤ length (now d)) ⌝ }
     ensures { λ _. ⌜ now (d .exit) ≡ laid (now (d .entry)) l (now (s .entry)) i 8 ⌝ }
 {
+    let mut t = [0u8; 8];
     let mut k = 0;
     while k < 8 {
-        d[l + k] = s[i + k];
+        t[k] = s[i + k];
         k += 1;
+    }
+    let mut j = 0;
+    while j < 8 {
+        d[l + j] = t[j];
+        j += 1;
     }
 }
 

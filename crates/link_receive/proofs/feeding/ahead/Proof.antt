@@ -6,8 +6,8 @@ use Rattle.crc.specs.Crc.{crcOf}
 use Rattle.runs.specs.Runs.{isOf}
 use Rattle.runs.specs.declared.Sort.the-variants as sort
 use Rattle.runs.proofs.Laws.{run-placed, run-all}
-use Rattle.link_receive.specs.declared.State.the-variants.{Idle, Noise, Frame, Giant}
-use Rattle.link_receive.proofs.Skips.{turnOf-idle, turnOf-noise, turnOf-tail, feedFrom-stays}
+use Rattle.link_receive.specs.declared.State.the-variants.{Idle, Noise, Frame}
+use Rattle.link_receive.proofs.Skips.{turnOf-idle, turnOf-noise, feedFrom-stays}
 use Rattle.link_receive.proofs.feeding.ahead.Statement.{statement}
 use Rattle.link_receive.proofs.feeding.ahead.Tie as tie
 
@@ -42,13 +42,8 @@ units-requires c κs = search needs
 enum-told-4 : tie.Need-enum-told-4
 enum-told-4 c = search needs
 
-run-requires-3 : tie.Need-run-requires-3
-run-requires-3 c κs = search needs
-
-add-t17 : tie.Need-add-t17
-add-t17 c =
-    let a = c .before .before .before .before .before .args in
-    omega (arith, run-placed (isOf sort.Raw) (a .s .now) (a .i) (c .run3 .result) (search needs) (c .run3 .ensures))
+tail-requires : tie.Need-tail-requires
+tail-requires c κs = search needs
 
 returns : tie.Need-returns
 returns c =
@@ -92,14 +87,12 @@ returns-3 c =
 returns-4 : tie.Need-returns-4
 returns-4 c =
     let a = c .before .before .before .before .before .args in
-    let s = a .s .now in
-    let k = c .run3 .result in
-    let placed = run-placed (isOf sort.Raw) s (a .i) k (search needs) (c .run3 .ensures) in
+    let k = c .tail .ensures in
     record {
-      placed = placed;
-      further = omega arith;
+      placed = k .placed;
+      further = k .further;
       within = search needs;
-      same = λ t. rw (c .before .enum-told4 .given .1) (feedFrom-stays crcOf s Giant (isOf sort.Raw) (a .len) (turnOf-tail (a .len)) (search needs) (a .body .now) t (a .i) k placed (run-all (isOf sort.Raw) s (a .i) k (search needs) (c .run3 .ensures)));
+      same = λ t. rw (c .before .enum-told4 .given .1) (k .same (a .body .now) (a .len) t (search needs));
     }
 
 returns-5 : tie.Need-returns-5
@@ -118,8 +111,7 @@ ahead-spec =
     enum-told-3
     units-requires
     enum-told-4
-    run-requires-3
-    add-t17
+    tail-requires
     returns
     returns-2
     same-length

@@ -1,7 +1,7 @@
--- `link_receive::Receiver::counted` raises one tally and empties the body. Assumes nothing.
+-- `link_receive::by_value::counted` raises one tally and empties the body. Assumes nothing.
 use borrow.Author.Needs.{needs}
-use Rattle.link_receive.proofs.Receiver.counted.Statement.{statement}
-use Rattle.link_receive.proofs.Receiver.counted.Tie as tie
+use Rattle.link_receive.proofs.by_value.counted.Statement.{statement}
+use Rattle.link_receive.proofs.by_value.counted.Tie as tie
 
 raised-requires : tie.Need-raised-requires
 raised-requires c κs = search needs

@@ -1,4 +1,4 @@
--- `link_receive::feed_in` feeds the receiver that it is lent, and writes state and length back before the tallies. Assumes nothing.
+-- `link_receive::lending::feed_in` feeds the receiver that it is lent, and writes state and length back before the tallies. Assumes nothing.
 use mathlib.Core.Path.{_≡_, ap, _∙_}
 use Prim.Native.Nat.{ℕ}
 use lib.ListN.{length, getD}
@@ -10,8 +10,8 @@ use Rattle.link_receive.specs.Feed.{feedOf}
 use Rattle.link_receive.specs.Lent.{stateAt, stateNumber, placeOf, fedInOf}
 use Rattle.link_receive.specs.Advance.{heldOf, fedOf}
 use Rattle.link_receive.proofs.Lent.{place-set}
-use Rattle.link_receive.proofs.feed_in.Statement.{statement}
-use Rattle.link_receive.proofs.feed_in.Tie as tie
+use Rattle.link_receive.proofs.lending.feed_in.Statement.{statement}
+use Rattle.link_receive.proofs.lending.feed_in.Tie as tie
 
 element-copy-out-state-at : tie.Need-element-copy-out-state-at
 element-copy-out-state-at c = search needs

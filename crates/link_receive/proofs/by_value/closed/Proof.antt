@@ -1,4 +1,4 @@
--- `link_receive::Receiver::closed` goes by the verdict on the units held. Assumes nothing.
+-- `link_receive::by_value::closed` goes by the verdict on the units held. Assumes nothing.
 use mathlib.Core.Path.{_≡_, sym, _∙_}
 use Prim.Native.Nat.{ℕ, _≤_}
 use native.Mathlib.Omega.{arith}
@@ -7,19 +7,19 @@ use lib.Seq.{length-take-le}
 use Rattle.crc.specs.Crc.{crcOf}
 use Rattle.link_receive.proofs.Steps.{sound-units}
 use borrow.Author.Needs.{needs}
-use Rattle.link_receive.proofs.Receiver.closed.Statement.{statement}
-use Rattle.link_receive.proofs.Receiver.closed.Tie as tie
+use Rattle.link_receive.proofs.by_value.closed.Statement.{statement}
+use Rattle.link_receive.proofs.by_value.closed.Tie as tie
 
 array-share-prefix-body : tie.Need-array-share-prefix-body
 array-share-prefix-body c =
     let a = c .before .args in
-    let n : length (a .self .body) ≡ 256 = search needs in
+    let n : length (a .r .body) ≡ 256 = search needs in
     omega arith
 
 slice-aggregate-parse-frame : tie.Need-slice-aggregate-parse-frame
 slice-aggregate-parse-frame c =
     let a = c .before .before .args in
-    let n : length (a .self .body) ≡ 256 = search needs in
+    let n : length (a .r .body) ≡ 256 = search needs in
     sym (length-take-le _ _ (omega arith))
 
 parse-frame-requires : tie.Need-parse-frame-requires
@@ -34,8 +34,8 @@ counted-requires c κs = search needs
 sub-t16 : tie.Need-sub-t16
 sub-t16 c =
     let a = c .before .before .before .before .before .before .before .args in
-    let n : length (a .self .body) ≡ 256 = search needs in
-    omega (arith, sound-units crcOf (a .self .body) (a .self .len) _ _ (omega arith) (sym (c .before .before .before .before .parse-frame .ensures) ∙ c .before .before .address .given .1))
+    let n : length (a .r .body) ≡ 256 = search needs in
+    omega (arith, sound-units crcOf (a .r .body) (a .r .len) _ _ (omega arith) (sym (c .before .before .before .before .parse-frame .ensures) ∙ c .before .before .address .given .1))
 
 enum-known-tally : tie.Need-enum-known-tally
 enum-known-tally c = search needs
