@@ -1,7 +1,7 @@
 // The link receiver's doors. Its state crosses as ten numbers (the state's own, the length, and the eight tallies in the ledger's order)
 // and the 256 bytes of its body, both lent and left as the call leaves them.
 ghost use mathlib.Core.Path.{_≡_};
-ghost use Rattle.link_receive.specs.Lent.{receiverAt, placeOf};
+ghost use Rattle.link_receive.specs.Lent.{receiverAt, placeOf, placeFed};
 ghost use Rattle.doors.specs.Receivers.{told, foundOf, pushedAt, fedAt, resetAt, heardOf};
 use link_receive::Answer;
 use link_receive::Receiver;
@@ -122,7 +122,7 @@ pub extern "C" fn johkkesir_feed(
     s: &[u8],
 ) -> u64
     ensures { λ r. ⌜ r ≡ told (fedAt (now (place .entry)) (now (body .entry)) (now (s .entry)) .answer) ⌝ }
-    ensures { λ _. ⌜ now (place .exit) ≡ placeOf (fedAt (now (place .entry)) (now (body .entry)) (now (s .entry)) .next) ⌝ }
+    ensures { λ _. ⌜ now (place .exit) ≡ placeFed (now (place .entry)) (fedAt (now (place .entry)) (now (body .entry)) (now (s .entry))) ⌝ }
     ensures { λ _. ⌜ now (body .exit) ≡ fedAt (now (place .entry)) (now (body .entry)) (now (s .entry)) .next .body ⌝ }
     ensures { λ _. ⌜ now (found .exit) ≡ foundOf (fedAt (now (place .entry)) (now (body .entry)) (now (s .entry)) .taken) (fedAt (now (place .entry)) (now (body .entry)) (now (s .entry)) .answer) ⌝ }
 {

@@ -3,13 +3,14 @@ use Prim.Native.Nat.{ℕ}
 use mathlib.Core.Bool.{cond}
 use mathlib.Core.List.{List, [], _∷_}
 use lib.ListN.{getD}
-use lib.Dec.{eqb}
+use lib.Dec.{eqb, ltb}
 use Rattle.link_receive.specs.declared.State.{State}
 use Rattle.link_receive.specs.declared.State.the-variants.{Idle, Noise, StartOfFrame, Frame, FrameEscape, Giant, GiantEscape}
 use Rattle.link_receive.specs.declared.Receiver.{Receiver}
 use Rattle.link_receive.specs.declared.Fed.{Fed}
 use Rattle.link_receive.specs.declared.FedIn.{FedIn}
 use Rattle.link_receive.specs.Tally.{eightOf, talliesAt}
+use Rattle.link_receive.specs.Step.{limit}
 
 -- the states by their numbers; any number above 5 stands for the last
 unfoldable pub stateAt : ℕ → State
@@ -40,3 +41,7 @@ placeOf r = stateNumber (r .state) ∷ r .len ∷ eightOf (r .tallies)
 -- what a feeding hands out, and how many bytes it took
 abbrev pub fedInOf : Fed → FedIn
 fedInOf f = record { answer = f .answer; taken = f .taken }
+
+-- the ten numbers after a feeding: 12 leaves them as they were, a number that is none of the states' too
+abbrev pub placeFed : List ℕ → Fed → List ℕ
+placeFed place f = cond (ltb limit (getD place 1 0)) place (placeOf (f .next))

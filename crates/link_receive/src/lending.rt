@@ -2,8 +2,10 @@
 ghost use mathlib.Core.Path.{_≡_};
 ghost use Rattle.crc.specs.Crc.{crcOf};
 ghost use Rattle.link_receive.specs.Feed.{feedOf};
-ghost use Rattle.link_receive.specs.Lent.{stateAt, stateNumber, receiverAt, placeOf, fedInOf};
+ghost use Rattle.link_receive.specs.Lent.{stateAt, stateNumber, receiverAt, placeFed, fedInOf};
+use crate::Answer;
 use crate::FedIn;
+use crate::Receiver;
 use crate::State;
 use crate::feeding::fed;
 
@@ -38,13 +40,20 @@ pub fn state_number(s: State) -> u64
 }
 
 // `Receiver::feed` over a receiver that is lent as ten numbers (state, length, tallies) and its body: for a loop that keeps them.
+// Refused by 12, with nothing changed and nothing taken, if the length is over the limit.
 pub fn feed_in(place: &mut [u64; 10], body: &mut [u8; 256], s: &[u8]) -> FedIn
     ensures answer { λ r. ⌜ r ≡ fedInOf (feedOf crcOf (receiverAt (now (place .entry)) (now (body .entry))) (now (s .entry))) ⌝ }
-    ensures numbers { λ _. ⌜ now (place .exit) ≡ placeOf (feedOf crcOf (receiverAt (now (place .entry)) (now (body .entry))) (now (s .entry)) .next) ⌝ }
+    ensures numbers { λ _. ⌜ now (place .exit) ≡ placeFed (now (place .entry)) (feedOf crcOf (receiverAt (now (place .entry)) (now (body .entry))) (now (s .entry))) ⌝ }
     ensures units { λ _. ⌜ now (body .exit) ≡ feedOf crcOf (receiverAt (now (place .entry)) (now (body .entry))) (now (s .entry)) .next .body ⌝ }
 {
-    let state = state_at(place[0]);
     let len = place[1] as usize;
+    if Receiver::MAX_FRAME_SIZE < len {
+        return FedIn {
+            answer: Answer::Refused,
+            taken: 0,
+        };
+    }
+    let state = state_at(place[0]);
     let a = fed(state, len, place, body, s);
     let next = a.state;
     let answer = a.answer;
