@@ -6,10 +6,12 @@ use native.Mathlib.Nat.{zero-lt-suc, add-zero, zero-add, suc-add, add-suc, add-c
 use native.Mathlib.Omega.{arith}
 use lib.Pow.{pow-add, pow-mono, high}
 use lib.Bits.{bitXor, xor-comm, xor-zero-l, xor-zero-r, xor-shifted, xor-lt}
-use lib.ListN.{length, getD, take, drop, length-drop, take-append-drop}
+use lib.ListN.{length, getD, take, drop, length-take, length-drop, take-append-drop}
 use lib.Seq.{drop-cons, take-add, take-all, take-length}
 use Rattle.laws.specs.Bytes.{Bytes}
 use Rattle.laws.proofs.Bits.{xor-assoc}
+use Rattle.words.specs.Words.{leOf, numberOf}
+use Rattle.words.proofs.Laws.{number-is}
 use Rattle.crc.specs.Crc.{crcBits, crcByte, crcFrom}
 use Rattle.crc.specs.Words.{leAt, crcWords}
 use Rattle.crc.proofs.Laws.{crcBits-above, crcFrom-append}
@@ -200,13 +202,23 @@ crcFrom-pass b hb i c t x u v w z h hx et e ez =
     ∙ ap₂ (λ (y s : ℕ). crcWords y (s ∷ [])) e ez
     ∙ sym (crcFrom-word b hb i c h)
 
--- two halves make a word
-pub leAt-halves : (b : List ℕ) (i v w : ℕ) → v ≡ leAt b i 0 4 → w ≡ leAt b (i + 4) 0 4 → v + 4294967296 * w ≡ leAt b i 0 8
-leAt-halves b i v w ev ew =
-    ap₂ (λ (x y : ℕ). x + 4294967296 * y) ev (ew ∙ leAt-place b (i + 4) 0 i 4 4 (add-zero (i + 4)))
-    ∙ add-comm (leAt b i 0 4) (4294967296 * leAt b i 4 4)
-    ∙ ap (λ (y : ℕ). y + leAt b i 0 4) (mul-comm 4294967296 (leAt b i 4 4))
-    ∙ sym (leAt-add b i 0 4 4)
+-- the number of bytes at a place is theirs alone
+leOf-at : (b : List ℕ) (i k n : ℕ) → i + k + n ≤ length b → leOf (take n (drop (i + k) b)) ≡ leAt b i k n
+leOf-at b i k zero h = refl
+leOf-at b i k (suc n) h =
+    ap (λ (r : List ℕ). leOf (take (suc n) r)) (drop-cons b (i + k) 0 (omega arith))
+    ∙ ap₂ (λ (j : ℕ) (y : ℕ). leOf (take n (drop j b)) * 256 + y) (sym (add-suc i k)) refl
+    ∙ ap (λ (y : ℕ). y * 256 + getD b (i + k) 0) (leOf-at b i (suc k) n (omega (arith, add-suc i k)))
+    ∙ turn (leAt b i (suc k) n) (getD b (i + k) 0)
+  where
+    turn : (y x : ℕ) → y * 256 + x ≡ x + 256 * y
+    turn y x = omega arith
 
-pub leAt-bytes : (b : List ℕ) (i r0 r1 r2 r3 : ℕ) → r0 ≡ getD b i 0 → r1 ≡ getD b (i + 1) 0 → r2 ≡ getD b (i + 2) 0 → r3 ≡ getD b (i + 3) 0 → r0 + 256 * (r1 + 256 * (r2 + 256 * r3)) ≡ leAt b i 0 4
-leAt-bytes b i r0 r1 r2 r3 e0 e1 e2 e3 = omega (arith, ap (λ (k : ℕ). getD b k 0) (add-zero i), e0, e1, e2, e3)
+-- `half_at` and `word_at` cite this: just n bytes of a slice, however long the part is written
+pub leAt-part : (b : List ℕ) (i n m r : ℕ) → i + n ≤ length b → m ≡ n → r ≡ numberOf n (take m (drop i b)) → r ≡ leAt b i 0 n
+leAt-part b i n m r h em er =
+    er
+    ∙ ap (λ (k : ℕ). numberOf n (take k (drop i b))) em
+    ∙ number-is n (take n (drop i b)) (simp (length-take, length-drop) (omega arith))
+    ∙ ap (λ (k : ℕ). leOf (take n (drop k b))) (sym (add-zero i))
+    ∙ leOf-at b i 0 n (omega arith)

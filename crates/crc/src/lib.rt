@@ -38,19 +38,13 @@ fn crc_plain(start: u16, buffer: &[u8]) -> u16
     crc
 }
 
-// A byte as a word.
-fn byte(x: u8) -> u64
-    ensures { λ r. ⌜ (r ≡ x) × (r < 256) ⌝ }
-{
-    x as u64
-}
-
 // The four bytes at i, the first lowest.
 fn half_at(b: &[u8], i: usize) -> u64
     requires { ⌜ i + 4 ≤ length (now b) ⌝ }
     ensures { λ r. ⌜ (r ≡ leAt (now (b .entry)) i 0 4) × (r < 2 ^ 32) ⌝ }
 {
-    byte(b[i]) + 256 * (byte(b[i + 1]) + 256 * (byte(b[i + 2]) + 256 * byte(b[i + 3])))
+    let e = i + 4;
+    words::half(&b[i..e])
 }
 
 // The eight bytes at i, the first lowest.
@@ -58,7 +52,8 @@ fn word_at(b: &[u8], i: usize) -> u64
     requires { ⌜ i + 8 ≤ length (now b) ⌝ }
     ensures { λ r. ⌜ r ≡ leAt (now (b .entry)) i 0 8 ⌝ }
 {
-    half_at(b, i) + 4294967296 * half_at(b, i + 4)
+    let e = i + 8;
+    words::word(&b[i..e])
 }
 
 // 64 bits of the check, as a word that is still to be settled: the fourth power is x^64 + x^48 + x^20 + 1.

@@ -12,7 +12,8 @@ use Rattle.laws.specs.Bytes.{laidOver}
 use Rattle.laws.proofs.Lay.{laidOver-paste, paste-append}
 use Rattle.runs.specs.Runs.{isOf, lead, All}
 use Rattle.runs.specs.declared.Sort.the-variants as sort
-use Rattle.runs.proofs.Laws.{never, copy-placed, copy-all}
+use Rattle.laws.proofs.Cases.{never}
+use Rattle.runs.proofs.Laws.{copy-placed, copy-all}
 use Rattle.escaping.specs.Escapes.{codeOf, escapedByte, escaped}
 use Rattle.escaping.proofs.Laws.{codeOf-other}
 use Rattle.escaping.proofs.Lengths.{escaped-take, escaped-take-raw, escaped-take-end, length-escaped-take}

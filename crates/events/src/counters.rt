@@ -2,7 +2,8 @@
 use crate::print_line;
 use transport_receiver::counters::*;
 
-fn print_first(c: &[u64; 33]) {
+// Receive requests and responses, and their packets.
+fn print_receives(c: &[u64; 33]) {
     print_line(b"unhandled_frame_type ", c[UNHANDLED_FRAME_TYPE]);
     print_line(b"invalid_receive_request ", c[INVALID_RECEIVE_REQUEST]);
     print_line(b"receive_requests ", c[RECEIVE_REQUESTS]);
@@ -14,6 +15,10 @@ fn print_first(c: &[u64; 33]) {
     print_line(b"receive_responses ", c[RECEIVE_RESPONSES]);
     print_line(b"receive_packets ", c[RECEIVE_PACKETS]);
     print_line(b"receive_packet_too_short ", c[RECEIVE_PACKET_TOO_SHORT]);
+}
+
+// Commands and pings.
+fn print_commands(c: &[u64; 33]) {
     print_line(b"invalid_command_requests ", c[INVALID_COMMAND_REQUESTS]);
     print_line(
         b"retransmitted_command_requests ",
@@ -30,7 +35,8 @@ fn print_first(c: &[u64; 33]) {
     print_line(b"ping_responses ", c[PING_RESPONSES]);
 }
 
-fn print_others(c: &[u64; 33]) {
+// The enumeration of gateways, up to its responses.
+fn print_enumeration(c: &[u64; 33]) {
     print_line(
         b"enumeration_start_requests ",
         c[ENUMERATION_START_REQUESTS],
@@ -49,6 +55,10 @@ fn print_others(c: &[u64; 33]) {
         b"invalid_enumeration_responses ",
         c[INVALID_ENUMERATION_RESPONSES],
     );
+}
+
+// What gateways are asked in an enumeration and after it: version, end, ID and identity.
+fn print_gateways(c: &[u64; 33]) {
     print_line(b"version_requests ", c[VERSION_REQUESTS]);
     print_line(b"version_responses ", c[VERSION_RESPONSES]);
     print_line(b"invalid_version_responses ", c[INVALID_VERSION_RESPONSES]);
@@ -75,6 +85,8 @@ fn print_others(c: &[u64; 33]) {
 }
 
 pub fn print_counters(c: &[u64; 33]) {
-    print_first(c);
-    print_others(c);
+    print_receives(c);
+    print_commands(c);
+    print_enumeration(c);
+    print_gateways(c);
 }

@@ -1,11 +1,16 @@
 // Reads standard input to its end and prints a line for each sound frame, in order: From or To, gateway in four hex digits, type in
 // four hex digits, payload in hex, or - if it has none.
+ghost use Prim.Native.Nat.{_<_, _≤_};
+ghost use lib.ListN.{length};
 use address::Address;
 use libc::STDERR_FILENO;
 use libc::STDIN_FILENO;
 use libc::STDOUT_FILENO;
 use link_receive::Answer;
 use link_receive::Receiver;
+
+// The limit of a receiver's length, which is the second of its ten numbers.
+const LIMIT: u64 = Receiver::MAX_FRAME_SIZE as u64;
 
 // The longest line: `From`, three blanks, eight digits, 500 more for a payload of 250 bytes, and the line's end.
 const LONGEST: usize = 516;
@@ -112,57 +117,63 @@ fn with_room(out: &[u8], at: usize) -> usize {
     0
 }
 
-// A receiver after what was read, and where the lines end in the output.
-struct Printed {
-    next: Receiver,
+// Where a feeding stopped, and what it handed out.
+struct Reached {
     at: usize,
+    answer: Answer,
 }
 
-// Puts the line of a frame whose payload is in the body handed back with it.
-fn put_handed(
-    out: &mut [u8],
-    at: usize,
-    r: Receiver,
-    address: Address,
-    kind: u16,
-    len: usize,
-) -> usize {
-    let body = r.body;
-    put_frame(out, at, address, kind, link_receive::payload(&body, len))
-}
-
-// Feeds a block to its end, with a line for each frame.
-fn print_block(r: Receiver, s: &[u8], out: &mut [u8], from: usize) -> Printed {
-    let len = r.len;
-    if Receiver::MAX_FRAME_SIZE < len {
-        return Printed { next: r, at: from };
+// Feeds a block from a place in it on, up to a frame or its end. A receiver that is over its limit passes the block by.
+fn feed_from(place: &mut [u64; 10], body: &mut [u8; 256], s: &[u8], at: usize) -> Reached
+    requires { ⌜ at < length (now s) ⌝ }
+    ensures { λ r. ⌜ (at < r .at) × (r .at ≤ length (now (s .entry))) ⌝ }
+{
+    if LIMIT < place[1] {
+        return Reached {
+            at: s.len(),
+            answer: Answer::Refused,
+        };
     }
-    let mut q = r;
+    let f = link_receive::lending::feed_in(place, body, &s[at..]);
+    let answer = f.answer;
+    Reached {
+        at: at + f.taken,
+        answer: answer,
+    }
+}
+
+// Puts the line of the frame that was handed out, if one was, with the payload in the body. Gives the place after it.
+fn put_answer(out: &mut [u8], at: usize, body: &[u8; 256], answer: Answer) -> usize {
+    let Answer::Frame {
+        address,
+        frame_type,
+        len,
+    } = answer
+    else {
+        return at;
+    };
+    let next = with_room(out, at);
+    let payload = link_receive::payload(body, len);
+    put_frame(out, next, address, frame_type.0, payload)
+}
+
+// Feeds a block to its end, with a line for each frame. Gives the place after the lines.
+fn print_block(
+    place: &mut [u64; 10],
+    body: &mut [u8; 256],
+    s: &[u8],
+    out: &mut [u8],
+    from: usize,
+) -> usize {
     let mut at = from;
     let mut i = 0;
     while i < s.len() {
-        let f = q.feed(&s[i..]);
-        let next = f.next;
-        q = next;
-        i += f.taken;
+        let f = feed_from(place, body, s, i);
+        i = f.at;
         let answer = f.answer;
-        if let Answer::Frame {
-            address,
-            frame_type,
-            len,
-        } = answer {
-            at = with_room(out, at);
-            at = put_handed(out, at, next, address, frame_type.0, len);
-        }
+        at = put_answer(out, at, body, answer);
     }
-    Printed { next: q, at: at }
-}
-
-// The same, after a block: with what `libc::read` answered.
-struct Block {
-    next: Receiver,
-    at: usize,
-    got: isize,
+    at
 }
 
 fn fail() {
@@ -170,41 +181,15 @@ fn fail() {
     os::fail(b"standard input");
 }
 
-// Reads one block, and prints its frames. A negative count says that reading failed, and 0 that the input is at its end.
-fn read_block(buf: &mut [u8], r: Receiver, out: &mut [u8], at: usize) -> Block {
-    let got = libc::read(STDIN_FILENO, buf);
-    if got <= 0 {
-        return Block {
-            next: r,
-            at: at,
-            got: got,
-        };
-    }
-    let n = io::count(got, buf);
-    let p = print_block(r, &buf[..n], out, at);
-    let next = p.next;
-    Block {
-        next: next,
-        at: p.at,
-        got: got,
-    }
-}
-
-fn main() {
-    let mut space = io::large_buffer();
-    let buf: &mut [u8] = &mut space;
-    let mut text = io::large_buffer();
-    let out: &mut [u8] = &mut text;
-    let mut r = Receiver::new();
+// Reads blocks to the input's end, and prints their frames. The receiver is kept here: fresh it is ten numbers and a body, all of them 0.
+fn print_all(buf: &mut [u8], out: &mut [u8]) {
+    let mut place = [0u64; 10];
+    let mut body = [0u8; 256];
     let mut at = 0;
     let mut turns = u64::MAX;
     while turns > 0 {
         turns -= 1;
-        let x = read_block(buf, r, out, at);
-        let next = x.next;
-        r = next;
-        at = x.at;
-        let got = x.got;
+        let got = libc::read(STDIN_FILENO, buf);
         if got <= 0 {
             flush(out, at);
             if got < 0 {
@@ -212,5 +197,13 @@ fn main() {
             }
             return;
         }
+        let n = io::count(got, buf);
+        at = print_block(&mut place, &mut body, &buf[..n], out, at);
     }
+}
+
+fn main() {
+    let mut space = io::large_buffer();
+    let mut text = io::large_buffer();
+    print_all(&mut space, &mut text);
 }

@@ -6,7 +6,7 @@ use Prim.Native.Nat.{ℕ, zero, suc, _+_, _-_, _≤_, _<_}
 use mathlib.Core.List.{List, [], _∷_, _++_, append-nil, append-assoc}
 use native.Mathlib.Nat.{not-suc-le-zero}
 use native.Mathlib.Omega.{arith}
-use lib.ListN.{length, getD, set, take, drop, length-set, length-drop, length-append, drop-of-length-le}
+use lib.ListN.{length, getD, set, take, drop, length-set, length-drop, length-append}
 use lib.Seq.{drop-drop, take-all}
 use lib.Dec.{ltb}
 use borrow.Author.Tests.{lt-ltb, le-ltb, ltb-true, ltb-false}
@@ -155,6 +155,13 @@ module _ (check : List ℕ → ℕ) where
             handed = rw e (i .handed);
           }
 
+  -- the same of a feeding that counts from the slice's start
+  pub drainOf-from : (s : List ℕ) (r : Receiver) (i : ℕ) (f : Fed) → r .len ≤ limit → f ≡ feedFrom check r (drop i s) i → drainOf check r (drop i s) ≡ drainOf check (f .next) (drop (f .taken) s)
+  drainOf-from s r i f h e =
+      let j : Then r (drop i s) i f = rw e (then-feed (drop i s) r i h) in
+      let k : f .taken ≡ i + j .more = j .taken in
+      rw k (rw (drop-drop (j .more) i s) at (j .drained))
+
   -- over the limit nothing moves
   pub drainOf-over : (s : List ℕ) (r : Receiver) → limit < r .len → drainOf check r s ≡ r
   unfolding drainOf
@@ -233,18 +240,11 @@ module _ (check : List ℕ → ℕ) where
   unfolding Hosts
   hosted s r h = hosted-in (length s) s r h (omega arith)
 
-  -- a run through s under way at i, which in the end gives x: what the loop of `extend_from_slice` keeps
+  -- a run through s under way at i, which in the end gives x: what a host's loop over its bytes keeps
   pub record Extending (s : List ℕ) (x : Receiver) (r : Receiver) (i : ℕ) : Type 0 where
     pub placed : i ≤ length s
     pub within : r .len ≤ limit
     pub same : drainOf check r (drop i s) ≡ x
-
-  pub extending-start : (s : List ℕ) (r : Receiver) → r .len ≤ limit → Extending s (drainOf check r s) r 0
-  extending-start s r h = record { placed = omega arith; within = h; same = refl }
-
-  pub extending-end : (s : List ℕ) (x r : Receiver) (i : ℕ) → length s ≤ i → Extending s x r i → r ≡ x
-  unfolding drainOf
-  extending-end s x r i h e = rw (drop-of-length-le s h) at (e .same)
 
   -- one feeding of what is left
   pub record Extended (s : List ℕ) (x : Receiver) (i : ℕ) (f : Fed) : Type 0 where
@@ -261,23 +261,4 @@ module _ (check : List ℕ → ℕ) where
       record {
         some = j .some (omega arith);
         on = record { placed = omega (arith, j .fits); within = j .within; same = sym (rw (drop-drop (f .taken) i s) at (j .drained)) ∙ e .same };
-      }
-
-  -- the same, of a feeding that counts from the slice's start
-  pub record Ran (s : List ℕ) (x r : Receiver) (i : ℕ) (f : Fed) : Type 0 where
-    pub some : i < f .taken
-    pub sized : length (f .next .body) ≡ length (r .body)
-    pub on : Extending s x (f .next) (f .taken)
-
-  pub extending-on :
-      (s : List ℕ) (x r : Receiver) (i : ℕ) (f : Fed) → i < length s → Extending s x r i → f ≡ feedFrom check r (drop i s) i → Ran s x r i f
-  extending-on s x r i f h e g =
-      let w : length (drop i s) ≡ length s - i = length-drop i s in
-      let j : Then r (drop i s) i f = rw g (then-feed (drop i s) r i (e .within)) in
-      let k : f .taken ≡ i + j .more = j .taken in
-      let d : drainOf check r (drop i s) ≡ drainOf check (f .next) (drop (i + j .more) s) = rw (drop-drop (j .more) i s) at (j .drained) in
-      record {
-        some = omega (arith, j .some (omega arith));
-        sized = j .sized;
-        on = record { placed = omega (arith, j .fits); within = j .within; same = rw k (sym d ∙ e .same) };
       }

@@ -12,7 +12,6 @@ use Rattle.link_receive.specs.declared.State.{State}
 use Rattle.link_receive.specs.declared.Tallies.{Tallies}
 use Rattle.link_receive.specs.declared.Answer.the-variants.{Nothing, Frame, Refused}
 use Rattle.link_receive.specs.declared.Receiver.{Receiver}
-use Rattle.link_receive.specs.declared.Fed.{Fed}
 use Rattle.link_receive.specs.Step.{limit, quiet, stepOf}
 use Rattle.link_receive.specs.Feed.{stopped, feedFrom, feedOf}
 
@@ -40,13 +39,6 @@ module _ (check : List ℕ → ℕ) where
   pub feedFrom-end : (r : Receiver) (s : List ℕ) (i : ℕ) → length s ≤ i → stopped r Nothing i ≡ feedFrom check r (drop i s) i
   unfolding feedFrom
   feedFrom-end r s i h = rw (drop-of-length-le s h)
-
-  -- a feeding of s under way at i, which in the end gives f
-  pub record Feeding (s : List ℕ) (f : Fed) (r : Receiver) (i : ℕ) : Type 0 where
-    pub placed : i ≤ length s
-    pub within : r .len ≤ limit
-    pub sized : length (r .body) ≡ limit
-    pub same : feedFrom check r (drop i s) i ≡ f
 
   pub feedOf-over : (r : Receiver) (s : List ℕ) → limit < r .len → feedOf check r s ≡ stopped r Refused 0
   unfolding feedOf

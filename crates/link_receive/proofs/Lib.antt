@@ -6,3 +6,4 @@ pub mod Drains
 pub mod Skips
 pub mod Lent
 pub mod Onwards
+pub mod Goings

@@ -1,5 +1,5 @@
 -- A pair that opens or closes a frame, and one byte: feeding on from behind them ends as feeding from here; over any check. Assumes nothing.
-use mathlib.Core.Path.{_≡_, refl, sym, ap, _∙_}
+use mathlib.Core.Path.{_≡_, refl, ap, _∙_}
 use mathlib.Core.List.{List}
 use Prim.Native.Nat.{ℕ, _+_, _-_, _≤_, _<_}
 use native.Mathlib.Omega.{arith}
@@ -17,13 +17,12 @@ use Rattle.link_receive.specs.declared.Parsed.{Parsed}
 use Rattle.link_receive.specs.declared.Parsed.the-variants.{Sound, Dropped}
 use Rattle.link_receive.specs.declared.Receiver.{Receiver}
 use Rattle.link_receive.specs.declared.Stepped.{Stepped}
-use Rattle.link_receive.specs.declared.Fed.{Fed}
 use Rattle.link_receive.specs.Tally.{raise}
 use Rattle.link_receive.specs.Step.{limit, turnOf, parsedOf, movedOf, closedOf, stepOf}
-use Rattle.link_receive.specs.Feed.{stopped, feedFrom}
+use Rattle.link_receive.specs.Feed.{feedFrom}
 use Rattle.link_receive.specs.Advance.{madeOf, Stands, fedBy, Onward}
 use Rattle.link_receive.proofs.Steps.{stepOf-within}
-use Rattle.link_receive.proofs.Feeds.{Feeding, feedFrom-more, feedFrom-frame}
+use Rattle.link_receive.proofs.Feeds.{feedFrom-more, feedFrom-frame}
 
 -- the two halves of an opener and of a closer
 turnOf-start : (len b : ℕ) → b ≡ 0x7e → turnOf Idle len b ≡ To StartOfFrame
@@ -46,12 +45,6 @@ two : (i : ℕ) → i + 2 ≡ i + 1 + 1
 two i = omega arith
 
 module _ (check : List ℕ → ℕ) (s : List ℕ) where
-  -- an answer that is something stops
-  pub fedBy-stops : (a : Answer) (q : Receiver) (j : ℕ) → (a ≡ answer.Nothing → ⊥) → stopped q a j ≡ fedBy check s a q j
-  fedBy-stops answer.Nothing q j h = absurd (h refl)
-  fedBy-stops (answer.Frame address t n) q j h = refl
-  fedBy-stops answer.Refused q j h = refl
-
   -- after what a byte asks for
   fed-moved :
       (r : Receiver) (m : Move) (i : ℕ) → i < length s → r .len ≤ limit → turnOf (r .state) (r .len) (getD s i 0) ≡ m →
@@ -118,17 +111,3 @@ module _ (check : List ℕ → ℕ) (s : List ℕ) where
               ∙ fed-moved x Close (i + 1) (omega arith) within (turnOf-closer len (getD s (i + 1) 0) (p .second))
               ∙ feedFrom-more check r x s i (omega arith) (stepOf-within check r (getD s i 0) _ within (turnOf-escape len (getD s i 0) (p .first)));
         }
-
-  -- so a feeding under way goes on, or stops: the loop of `advance` cites these
-  module _ (f : Fed) (r : Receiver) (i : ℕ) (q : Receiver) (a : Answer) (j : ℕ) (g : Feeding check s f r i) (o : Onward check s r i q a j) where
-    pub feeding-onward : a ≡ answer.Nothing → length (q .body) ≡ length (r .body) → Feeding check s f q j
-    feeding-onward n e =
-        record {
-          placed = o .placed;
-          within = o .within;
-          sized = e ∙ g .sized;
-          same = sym (ap (λ (b : Answer). fedBy check s b q j) n) ∙ o .same ∙ g .same;
-        }
-
-    pub feeding-stops : (a ≡ answer.Nothing → ⊥) → stopped q a j ≡ f
-    feeding-stops n = fedBy-stops a q j n ∙ o .same ∙ g .same

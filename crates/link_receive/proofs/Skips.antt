@@ -10,10 +10,11 @@ use native.Mathlib.Omega.{arith}
 use lib.Dec.{eqb, ltb}
 use lib.ListN.{length, getD, set, take, drop, length-set}
 use lib.Seq.{paste}
-use borrow.Author.Tests.{eqb-true, not-true, lt-ltb}
+use borrow.Author.Tests.{eqb-true, not-true, lt-ltb, ne-eqb}
 use Rattle.runs.specs.Runs.{isOf, lead, All, laid}
-use Rattle.runs.proofs.Laws.{copy-room, copy-placed, copy-all, length-laid, laid-paste}
+use Rattle.runs.proofs.Laws.{run-placed, run-all, copy-room, copy-placed, copy-all, length-laid, laid-paste}
 use Rattle.runs.specs.declared.Sort.the-variants as sort
+use Rattle.laws.proofs.Cases.{never}
 use Rattle.link_receive.specs.declared.State.{State}
 use Rattle.link_receive.specs.declared.State.the-variants.{Idle, Noise, StartOfFrame, Frame, FrameEscape, Giant, GiantEscape}
 use Rattle.link_receive.specs.declared.Tally.the-variants as tally
@@ -23,14 +24,10 @@ use Rattle.link_receive.specs.declared.Move.the-variants.{To, Push, Coun
 use Rattle.link_receive.specs.Step.{limit, outsideOf, turnOf}
 use Rattle.link_receive.specs.Feed.{feedFrom}
 use Rattle.link_receive.specs.declared.Place.{Place}
-use Rattle.link_receive.specs.declared.Fed.{Fed}
 use Rattle.link_receive.specs.Advance.{madeOf, Ahead, Skips, Skipped}
 use Rattle.link_receive.proofs.Turns.{tailOf-other}
 use Rattle.link_receive.proofs.Steps.{stepOf-within}
-use Rattle.link_receive.proofs.Feeds.{Feeding, feedFrom-more}
-
-never : {A : Type 0} → false ≡ true → A
-never e = absurd (let z : _≡_ {A = ℕ} 0 1 = cc in omega arith)
+use Rattle.link_receive.proofs.Feeds.{feedFrom-more}
 
 -- idle bytes leave Idle as it is
 pub turnOf-idle : (len b : ℕ) → isOf sort.Idle b ≡ true → turnOf Idle len b ≡ To Idle
@@ -56,6 +53,10 @@ turnOf-noise len b e = go (eqb b 0x7e) (eqb b 0x00) (eqb b 0xff) e
 pub turnOf-tail : (len b : ℕ) → isOf sort.Raw b ≡ true → turnOf Giant len b ≡ To Giant
 unfolding isOf turnOf
 turnOf-tail len b e = rw (not-true (eqb b 0x7e) e)
+
+raw-other : (b : ℕ) → (b ≡ 0x7e → ⊥) → isOf sort.Raw b ≡ true
+unfolding isOf
+raw-other b e = rw (ne-eqb b 0x7e e)
 
 pub turnOf-unit : (len b : ℕ) → len < limit → isOf sort.Raw b ≡ true → turnOf Frame len b ≡ Push b
 unfolding isOf turnOf
@@ -103,11 +104,19 @@ module _ (check : List ℕ → ℕ) (s : List ℕ) where
       ∙ feedFrom-more check r r s (i + m) (omega (arith, next i m)) (stepOf-within check r (getD s (i + m) 0) (To state) h (turns (getD s (i + m) 0) (a m (less m))))
       ∙ feedFrom-stays state p len turns h body t i m (omega (arith, next i m)) (λ k u. a k (more k m u))
 
-  -- what the tail has skipped: nothing yet, a run more, a pair more
+  -- what the tail has skipped: nothing yet, as much more as a part of it skips, a run more, a byte more, a pair more
   pub skipped-none : (i : ℕ) → i ≤ length s → Skipped check s i i
   skipped-none i h = record { placed = h; further = omega arith; same = λ body len t l. refl }
 
   module _ (i₀ i : ℕ) (k : Skipped check s i₀ i) where
+    pub skipped-more : (j : ℕ) → Skipped check s i j → Skipped check s i₀ j
+    skipped-more j m =
+        record {
+          placed = m .placed;
+          further = omega (arith, k .further, m .further);
+          same = λ body len t l. m .same body len t l ∙ k .same body len t l;
+        }
+
     pub skipped-run : (m : ℕ) → i + m ≤ length s → All (isOf sort.Raw) s i m → Skipped check s i₀ (i + m)
     skipped-run m h a =
         record {
@@ -115,6 +124,12 @@ module _ (check : List ℕ → ℕ) (s : List ℕ) where
           further = omega (arith, k .further);
           same = λ body len t l. feedFrom-stays Giant (isOf sort.Raw) len (turnOf-tail len) l body t i m h a ∙ k .same body len t l;
         }
+
+    pub skipped-lead : (m : ℕ) → m ≡ lead (isOf sort.Raw) (drop i s) → Skipped check s i₀ (i + m)
+    skipped-lead m e = skipped-run m (run-placed (isOf sort.Raw) s i m (k .placed) e) (run-all (isOf sort.Raw) s i m (k .placed) e)
+
+    pub skipped-byte : i < length s → (getD s i 0 ≡ 0x7e → ⊥) → Skipped check s i₀ (i + 1)
+    skipped-byte h e = skipped-run 1 (omega arith) (λ j u. let z : i + j ≡ i = omega arith in rw z (raw-other (getD s i 0) e))
 
     pub skipped-pair : Skips s i → Skipped check s i₀ (i + 2)
     skipped-pair p =
@@ -145,14 +160,6 @@ module _ (check : List ℕ → ℕ) (s : List ℕ) where
       ap₂ (λ (l n : ℕ). feedFrom check (madeOf Frame (laid body len s i (suc m)) l t) (drop n s) n) (next len m) (next i m)
       ∙ feedFrom-more check r (madeOf Frame (set (laid body len s i m) (len + m) b) (len + m + 1) t) s (i + m) (omega (arith, next i m)) (stepOf-within check r b (Push b) (le-of-lt l) (turnOf-unit (len + m) b l (a m (less m))))
       ∙ feedFrom-units body len t i m (le-of-lt l) (omega (arith, next i m)) (λ k u. a k (more k m u))
-
-  -- so a feeding under way goes on from there: the loop of `advance` cites this
-  pub feeding-ahead :
-      (f : Fed) (state : State) (body : List ℕ) (len : ℕ) (t : Tallies) (i : ℕ) (next : List ℕ) (p : Place) →
-      Feeding check s f (madeOf state body len t) i → Ahead check state s body len i next p → length next ≡ length body →
-      Feeding check s f (madeOf state next (p .len) t) (p .at)
-  feeding-ahead f state body len t i next p g a e =
-      record { placed = a .placed; within = a .within; sized = e ∙ g .sized; same = a .same t ∙ g .same }
 
   -- units of an open frame taken so far, from a body, a length and a place: the loop of `units` keeps this
   pub record Held (body : List ℕ) (len i : ℕ) (next : List ℕ) (p : Place) : Type 0 where

@@ -1,6 +1,7 @@
 -- How feeding goes on over the parts of a receiver, its body and tallies lent; over any check. Assumes nothing.
 use mathlib.Core.Path.{_≡_}
 use Prim.Native.Nat.{ℕ, _+_, _≤_, _<_}
+use mathlib.Core.Bool.{Bool, true, false}
 use mathlib.Core.List.{List}
 use lib.ListN.{length, getD, drop}
 use Rattle.link_receive.specs.declared.State.{State}
@@ -19,6 +20,7 @@ use Rattle.link_receive.specs.declared.Fed.{Fed}
 use Rattle.link_receive.specs.Tally.{talliesAt}
 use Rattle.link_receive.specs.Step.{limit}
 use Rattle.link_receive.specs.Feed.{stopped, feedFrom}
+use Rattle.link_receive.specs.Drain.{drainOf}
 
 -- the parts put together
 abbrev pub madeOf : State → List ℕ → ℕ → Tallies → Receiver
@@ -57,7 +59,18 @@ Paired state s i Opener = (state ≡ Idle) × Stands s i 0x07
 Paired state s i Closer = (state ≡ Frame) × Stands s i 0x08
 Paired state s i Neither = 0 ≤ i
 
+-- whether an answer ends a feeding: one that is something does, where the feeding is to stop
+abbrev pub stopsAt : Answer → Bool → Bool
+stopsAt answer.Nothing stop = false
+stopsAt (answer.Frame address t n) stop = stop
+stopsAt answer.Refused stop = stop
+
 module _ (check : List ℕ → ℕ) where
+  -- a slice fed from a place on: up to the first answer that is something, or else through all of them to its end
+  abbrev pub wentOf : Bool → Receiver → List ℕ → ℕ → Fed
+  wentOf true r s i = feedFrom check r (drop i s) i
+  wentOf false r s i = stopped (drainOf check r (drop i s)) answer.Nothing (length s)
+
   -- a place further on, from which feeding on is feeding from here: in the same state, with no tally raised
   pub record Ahead (state : State) (s : List ℕ) (body : List ℕ) (len i : ℕ) (next : List ℕ) (p : Place) : Type 0 where
     pub placed : p .at ≤ length s

@@ -2,12 +2,12 @@
 ghost use mathlib.Core.Path.{_≡_};
 ghost use mathlib.Core.Bool.{true};
 ghost use Prim.Native.Nat.{_<_, _≤_};
-ghost use lib.ListN.{length, take, drop};
+ghost use lib.ListN.{length, take};
 ghost use Rattle.crc.specs.Crc.{crcOf};
 ghost use Rattle.link_receive.specs.Tally.{kindOf, raise, tallyPlace, talliesAt};
 ghost use Rattle.link_receive.specs.Step.{limit, parsedOf, closedOf, stepOf};
-ghost use Rattle.link_receive.specs.Feed.{feedFrom, feedOf};
-ghost use Rattle.link_receive.specs.Advance.{heldOf, steppedOf, stoodOf, fedOf, Ahead, Skips, Skipped, Stands, Paired, Onward};
+ghost use Rattle.link_receive.specs.Feed.{feedOf};
+ghost use Rattle.link_receive.specs.Advance.{heldOf, steppedOf, stoodOf, fedOf, Ahead, Stands, Paired, Onward, stopsAt, wentOf};
 use crate::Advanced;
 use crate::Answer;
 use crate::Move;
@@ -20,6 +20,7 @@ use crate::Stood;
 use crate::Tally;
 use crate::moves::parse_frame;
 use crate::moves::turn;
+use crate::tails::tail;
 use escaping::Unescaped;
 use runs::Sort;
 
@@ -153,41 +154,6 @@ fn units(len0: usize, body: &mut [u8], s: &[u8], i0: usize) -> Place
     Place { len: len, at: i }
 }
 
-// Whether a pair that neither opens nor closes a frame stands at a place.
-fn skips(s: &[u8], i: usize) -> bool
-    requires { ⌜ i ≤ length (now s) ⌝ }
-    ensures { λ r. ⌜ (r ≡ true → Skips (now (s .entry)) i) ⌝ }
-{
-    if s.len() - i < 2 {
-        return false;
-    }
-    if s[i] != 0x7e {
-        return false;
-    }
-    let b = s[i + 1];
-    if b == 0x07 {
-        return false;
-    }
-    b != 0x08
-}
-
-// What an overlong tail skips, as far as the slice has it whole: raw bytes, and pairs that neither open nor close.
-fn tail(s: &[u8], i0: usize) -> usize
-    requires { ⌜ i0 ≤ length (now s) ⌝ }
-    ensures { λ r. ⌜ Skipped crcOf (now (s .entry)) i0 r ⌝ }
-{
-    let mut i = i0;
-    while i < s.len() {
-        let k = runs::run(Sort::Raw, s, i);
-        i += k;
-        if !skips(s, i) {
-            break;
-        }
-        i += 2;
-    }
-    i
-}
-
 // Many bytes at once, where all of them leave the state as it is: idle bytes, noise, what a tail skips, and units of an open frame.
 fn ahead(state: State, len: usize, body: &mut [u8], s: &[u8], i: usize) -> Place
     requires { ⌜ (len ≤ limit) × (length (now body) ≡ limit) × (i ≤ length (now s)) ⌝ }
@@ -298,7 +264,17 @@ fn onward(
     }
 }
 
-// Feeds a slice from a place on, up to the first frame handed out or its end.
+// Whether to stop at an answer.
+fn stops(answer: Answer, stop: bool) -> bool
+    ensures { λ r. ⌜ r ≡ stopsAt answer stop ⌝ }
+{
+    match answer {
+        Answer::Nothing => false,
+        _ => stop,
+    }
+}
+
+// Feeds a slice from a place on: up to the first frame handed out if it is to stop there, else through every frame, and at most to its end.
 pub fn advance(
     state0: State,
     len0: usize,
@@ -306,9 +282,10 @@ pub fn advance(
     body: &mut [u8],
     s: &[u8],
     i0: usize,
+    stop: bool,
 ) -> Advanced
     requires { ⌜ (len0 ≤ limit) × (length (now body) ≡ limit) × (length (now tallies) ≡ 10) × (i0 ≤ length (now s)) ⌝ }
-    ensures { λ r. ⌜ fedOf r (now (body .exit)) (now (tallies .exit)) ≡ feedFrom crcOf (heldOf state0 (now (body .entry)) len0 (now (tallies .entry))) (drop i0 (now (s .entry))) i0 ⌝ }
+    ensures { λ r. ⌜ fedOf r (now (body .exit)) (now (tallies .exit)) ≡ wentOf crcOf stop (heldOf state0 (now (body .entry)) len0 (now (tallies .entry))) (now (s .entry)) i0 ⌝ }
 {
     let mut state = state0;
     let mut len = len0;
@@ -322,17 +299,13 @@ pub fn advance(
         }
         let a = onward(state, len, tallies, body, s, i);
         let answer = a.answer;
-        match answer {
-            Answer::Nothing => {
-                let next = a.state;
-                state = next;
-                len = a.len;
-                i = a.at;
-            }
-            _ => {
-                return a;
-            }
+        if stops(answer, stop) {
+            return a;
         }
+        let next = a.state;
+        state = next;
+        len = a.len;
+        i = a.at;
     }
     Advanced {
         state: state,
@@ -355,5 +328,5 @@ pub fn fed(state: State, len: usize, tallies: &mut [u64], body: &mut [u8], s: &[
             at: 0,
         };
     }
-    advance(state, len, tallies, body, s, 0)
+    advance(state, len, tallies, body, s, 0, true)
 }

@@ -20,6 +20,7 @@ mod by_value;
 mod feeding;
 pub mod lending;
 mod moves;
+mod tails;
 
 // Where the receiver stands in the stream.
 pub enum State {
@@ -351,34 +352,28 @@ impl Receiver {
         }
     }
 
-    // A whole slice, fed again after each frame; the frames are not looked at. Refused by 12 as a step is.
+    // A whole slice, through every frame; the frames are not looked at. Refused by 12 as a step is.
     pub fn extend_from_slice(self, s: &[u8]) -> Stepped
         ensures { λ r. ⌜ r ≡ extendOf crcOf self (now (s .entry)) ⌝ }
     {
-        let mut len = self.len;
+        let len = self.len;
         if Receiver::MAX_FRAME_SIZE < len {
             return Stepped {
                 next: self,
                 answer: Answer::Refused,
             };
         }
-        let mut state = self.state;
+        let state = self.state;
         let mut tallies = self.tallies.numbers();
         let mut body = self.body;
-        let mut i = 0;
-        while i < s.len() {
-            let a = advance(state, len, &mut tallies, &mut body, s, i);
-            let next = a.state;
-            state = next;
-            len = a.len;
-            i = a.at;
-        }
+        let a = advance(state, len, &mut tallies, &mut body, s, 0, false);
+        let next = a.state;
         let counts = Tallies::of(tallies);
         Stepped {
             next: Receiver {
-                state: state,
+                state: next,
                 body: body,
-                len: len,
+                len: a.len,
                 tallies: counts,
             },
             answer: Answer::Nothing,

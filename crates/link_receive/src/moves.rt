@@ -74,7 +74,7 @@ pub fn turn(state: State, len: usize, b: u8) -> Move
 }
 
 // Two bytes as a number, the higher first.
-fn number(hi: u8, lo: u8) -> u16
+pub fn number(hi: u8, lo: u8) -> u16
     ensures { λ r. ⌜ r ≡ of16 hi lo ⌝ }
 {
     (hi as u16) * 256 + (lo as u16)

@@ -172,6 +172,12 @@ use Rattle.event_record.proofs.command.Kinds as event-record·command·kinds
 use Rattle.event_record.proofs.command.Reads as event-record·command·reads
 use Rattle.records.proofs.write.Kinds as records·write·kinds
 use Rattle.records.proofs.write.Reads as records·write·reads
+use Rattle.words.proofs.half.Kinds as words·half·kinds
+use Rattle.words.proofs.half.Reads as words·half·reads
+use Rattle.words.proofs.word.Kinds as words·word·kinds
+use Rattle.words.proofs.word.Reads as words·word·reads
+use Rattle.words.proofs.put_word.Kinds as words·put-word·kinds
+use Rattle.words.proofs.put_word.Reads as words·put-word·reads
 use Rattle.runs.proofs.is.Kinds as runs·is·kinds
 use Rattle.runs.proofs.is.Reads as runs·is·reads
 use Rattle.runs.proofs.run.Kinds as runs·run·kinds
@@ -424,6 +430,15 @@ event-record·command κs a x y u v p q = (handed-apart x y (p .0 ∙ sym (q .0)
 
 pub records·write : Determined 3 records·write·kinds.ps records·write·kinds.r records·write·reads.Learnt
 records·write κs a x y u v p q = (handed-apart x y (p .0 ∙ sym (q .0)), ap (λ (z : List ℕ). (at-last (a .0) z, (a .1 .0, (a .1 .1 .0, (a .1 .1 .1 .0, (a .1 .1 .1 .1 .0, tt)))))) (p .1 ∙ sym (q .1)))
+
+pub words·half : Determined 1 words·half·kinds.ps words·half·kinds.r words·half·reads.Learnt
+words·half κs a x y u v p q = (p .0 ∙ sym (q .0), refl)
+
+pub words·word : Determined 1 words·word·kinds.ps words·word·kinds.r words·word·reads.Learnt
+words·word κs a x y u v p q = (p ∙ sym q, refl)
+
+pub words·put-word : Determined 1 words·put-word·kinds.ps words·put-word·kinds.r words·put-word·reads.Learnt
+words·put-word κs a x y u v p q = (refl, ap (λ (z : List ℕ). (at-last (a .0) z, (a .1 .0, tt))) (p ∙ sym q))
 
 pub runs·is : Determined 0 runs·is·kinds.ps runs·is·kinds.r runs·is·reads.Learnt
 runs·is κs a x y u v p q = (p ∙ sym q, refl)

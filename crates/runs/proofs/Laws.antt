@@ -127,9 +127,6 @@ pub plain-is : (x y : Bool) → not x ≡ true → not y ≡ true → (not x && 
 plain-is true y p q = p
 plain-is false y p q = q
 
-pub never : {A : Type 0} → false ≡ true → A
-never t = absurd (let z : _≡_ {A = ℕ} 0 1 = cc in omega arith)
-
 -- no bytes
 pub all-none : (p : ℕ → Bool) (s : List ℕ) (i : ℕ) → All p s i 0
 all-none p s i k h = absurd (not-suc-le-zero h)

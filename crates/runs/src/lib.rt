@@ -1,5 +1,6 @@
-// Runs of bytes, taken many at a time: eight while all eight are of a sort, then one by one. The receiver skips and copies
-// such runs, and the encoder copies the bytes that stand for themselves.
+// Runs of bytes, taken many at a time: eight while all eight are of a sort, then one by one. Idle bytes, and raw bytes that are copied, go
+// by words: the bytes that end a run are marked, and those before the first mark are counted at once. The receiver skips and copies such
+// runs, and the encoder copies the bytes that stand for themselves.
 ghost use mathlib.Core.Path.{_≡_};
 ghost use mathlib.Core.Bool.{true, not};
 ghost use Prim.Native.Nat.{ℕ, _+_, _-_, _≤_, _<_};
@@ -7,6 +8,7 @@ ghost use lib.ListN.{length, take, drop};
 ghost use lib.Seq.{paste};
 ghost use lib.Dec.{eqb};
 ghost use Rattle.runs.specs.Runs.{idle, fenced, isOf, lead, All, laid, Copied};
+ghost use Rattle.runs.specs.Marks.{Marks, Below, Filled, Blended};
 
 // A sort of bytes: any but 7e; 00 and ff; any but 00, ff and 7e; those that stand for themselves on the wire.
 pub enum Sort {
@@ -75,26 +77,6 @@ fn none8(s: &[u8], i: usize, x: u8) -> bool
     e == 0
 }
 
-// Whether each of the eight bytes at i is 00 or ff.
-fn idle8(s: &[u8], i: usize) -> bool
-    requires { ⌜ i + 8 ≤ length (now s) ⌝ }
-    ensures { λ r. ⌜ (r ≡ true → All idle (now (s .entry)) i 8) ⌝ }
-{
-    // Idle bytes between frames are few: the last of the eight tells so at once.
-    if !is_idle(s[i + 7]) {
-        return false;
-    }
-    let mut e: u8 = 0;
-    let mut k = 0;
-    while k < 8 {
-        if !is_idle(s[i + k]) {
-            e = 1;
-        }
-        k += 1;
-    }
-    e == 0
-}
-
 // Whether none of the eight bytes at i is 23 to 25 or a3 to a5.
 fn open8(s: &[u8], i: usize) -> bool
     requires { ⌜ i + 8 ≤ length (now s) ⌝ }
@@ -135,6 +117,43 @@ fn plain8(s: &[u8], i: usize) -> bool
     false
 }
 
+// Marks the bytes of a word that are 7e: 80 in the place of each, 00 elsewhere.
+fn escapes(w: u64) -> u64
+    ensures { λ r. ⌜ Marks (isOf Sort.Raw) w r ⌝ }
+{
+    let y = w ^ 0x7e7e7e7e7e7e7e7e;
+    let t = (y & 0x7f7f7f7f7f7f7f7f) + 0x7f7f7f7f7f7f7f7f;
+    (t | y | 0x7f7f7f7f7f7f7f7f) ^ 0xffffffffffffffff
+}
+
+// Marks those that are neither 00 nor ff.
+fn busy(w: u64) -> u64
+    ensures { λ r. ⌜ Marks (isOf Sort.Idle) w r ⌝ }
+{
+    let t = (w & 0x7f7f7f7f7f7f7f7f) + 0x0101010101010101;
+    let v = (t ^ (w & 0x8080808080808080)) & 0xfefefefefefefefe;
+    (((v & 0x7f7f7f7f7f7f7f7f) + 0x7f7f7f7f7f7f7f7f) | v) & 0x8080808080808080
+}
+
+// All bits of the bytes below the first mark.
+fn below(z: u64) -> u64
+    requires { ⌜ 1 ≤ z ⌝ }
+    ensures { λ r. ⌜ Below z r ⌝ }
+{
+    (z ^ (z - 1)) >> 8
+}
+
+// How many bytes such bits fill.
+fn filled(m: u64) -> usize
+    ensures { λ r. ⌜ Filled m r ⌝ }
+{
+    let a = m & 0x0101010101010101;
+    let b = a + (a >> 32);
+    let c = b + (b >> 16);
+    let e = c + (c >> 8);
+    (e % 16) as usize
+}
+
 // How many bytes at i pass by eights, none of them 7e.
 fn raw_eights(s: &[u8], i: usize) -> usize
     requires { ⌜ i ≤ length (now s) ⌝ }
@@ -151,7 +170,7 @@ fn raw_eights(s: &[u8], i: usize) -> usize
     m
 }
 
-// The same, each of them 00 or ff.
+// How many of 00 and ff pass at i by words: up to the first other byte, or to where no eight are left.
 fn idle_eights(s: &[u8], i: usize) -> usize
     requires { ⌜ i ≤ length (now s) ⌝ }
     ensures { λ r. ⌜ (i + r ≤ length (now (s .entry))) × All (isOf Sort.Idle) (now (s .entry)) i r ⌝ }
@@ -159,15 +178,18 @@ fn idle_eights(s: &[u8], i: usize) -> usize
     let left = s.len() - i;
     let mut m = 0;
     while m + 8 <= left {
-        if !idle8(s, i + m) {
-            break;
+        let a = i + m;
+        let e = a + 8;
+        let z = busy(words::word(&s[a..e]));
+        if z != 0 {
+            return m + filled(below(z));
         }
         m += 8;
     }
     m
 }
 
-// The same, none of them 00, ff or 7e.
+// How many bytes at i pass by eights, none of them 00, ff or 7e.
 fn noise_eights(s: &[u8], i: usize) -> usize
     requires { ⌜ i ≤ length (now s) ⌝ }
     ensures { λ r. ⌜ (i + r ≤ length (now (s .entry))) × All (isOf Sort.Noise) (now (s .entry)) i r ⌝ }
@@ -233,17 +255,35 @@ fn copy8(d: &mut [u8], l: usize, s: &[u8], i: usize)
     }
 }
 
-// Copies raw bytes by eights, at most `most`.
+// Lays the bytes of a word before the first mark to d at l.
+fn blend(d: &mut [u8], l: usize, w: u64, z: u64) -> usize
+    requires { ⌜ (l + 8 ≤ length (now d)) × (1 ≤ z) ⌝ }
+    ensures { λ r. ⌜ Blended (now (d .entry)) l w z r (now (d .exit)) ⌝ }
+{
+    let m = below(z);
+    let e = l + 8;
+    let b = words::word(&d[l..e]);
+    words::put_word(&mut d[l..e], b ^ ((b ^ w) & m));
+    filled(m)
+}
+
+// Copies raw bytes by words, at most `most`: up to the first 7e, or to where no eight are left.
 fn copy_raw_eights(d: &mut [u8], l: usize, s: &[u8], i: usize, most: usize) -> usize
     requires { ⌜ (i + most ≤ length (now s)) × (l + most ≤ length (now d)) ⌝ }
     ensures { λ r. ⌜ Copied (isOf Sort.Raw) (now (d .entry)) l (now (s .entry)) i most r (now (d .exit)) ⌝ }
 {
     let mut m = 0;
     while m + 8 <= most {
-        if !none8(s, i + m, 0x7e) {
-            break;
+        let a = i + m;
+        let e = a + 8;
+        let w = words::word(&s[a..e]);
+        let z = escapes(w);
+        let b = l + m;
+        if z != 0 {
+            return m + blend(d, b, w, z);
         }
-        copy8(d, l + m, s, i + m);
+        let c = b + 8;
+        words::put_word(&mut d[b..c], w);
         m += 8;
     }
     m

@@ -1,91 +1,30 @@
--- `crc::half_at` is the number of four bytes: each is below 256, so the sums stay below 2^32. Assumes nothing.
+-- `crc::half_at` is the number of four bytes, lent as just those. Assumes nothing.
+use Prim.Native.Nat.{_+_, _-_}
 use native.Mathlib.Omega.{arith}
 use borrow.Author.Needs.{needs}
-use Rattle.crc.proofs.Words.{leAt-bytes}
+use Rattle.crc.proofs.Words.{leAt-part}
 use Rattle.crc.proofs.half_at.Statement.{statement}
 use Rattle.crc.proofs.half_at.Tie as tie
 
-shared-slice-read-byte : tie.Need-shared-slice-read-byte
-shared-slice-read-byte c = search needs
+add-e : tie.Need-add-e
+add-e c = search needs
 
-byte-requires : tie.Need-byte-requires
-byte-requires c κs = search needs
+sub-half : tie.Need-sub-half
+sub-half c = search needs
 
-add-byte : tie.Need-add-byte
-add-byte c = search needs
+part-half-start : tie.Need-part-half-start
+part-half-start c = search needs
 
-shared-slice-read-byte-2 : tie.Need-shared-slice-read-byte-2
-shared-slice-read-byte-2 c = search needs
+part-half-end : tie.Need-part-half-end
+part-half-end c = search needs
 
-byte-requires-2 : tie.Need-byte-requires-2
-byte-requires-2 c κs = search needs
-
-add-byte-2 : tie.Need-add-byte-2
-add-byte-2 c = search needs
-
-shared-slice-read-byte-3 : tie.Need-shared-slice-read-byte-3
-shared-slice-read-byte-3 c = search needs
-
-byte-requires-3 : tie.Need-byte-requires-3
-byte-requires-3 c κs = search needs
-
-add-byte-3 : tie.Need-add-byte-3
-add-byte-3 c = search needs
-
-shared-slice-read-byte-4 : tie.Need-shared-slice-read-byte-4
-shared-slice-read-byte-4 c = search needs
-
-byte-requires-4 : tie.Need-byte-requires-4
-byte-requires-4 c κs = search needs
-
-mul-result : tie.Need-mul-result
-mul-result c = search needs
-
-add-result : tie.Need-add-result
-add-result c = search needs
-
-mul-result-2 : tie.Need-mul-result-2
-mul-result-2 c = search needs
-
-add-result-2 : tie.Need-add-result-2
-add-result-2 c = search needs
-
-mul-result-3 : tie.Need-mul-result-3
-mul-result-3 c = search needs
-
-add-result-3 : tie.Need-add-result-3
-add-result-3 c = search needs
+half-requires : tie.Need-half-requires
+half-requires c κs = search needs
 
 returns : tie.Need-returns
 returns c =
-    let a = c .before .before .before .before .before .before .before .before .before .args in
-    let r0 = c .before .before .before .before .before .before .byte in
-    let r1 = c .before .before .before .before .byte2 in
-    let r2 = c .before .before .byte3 in
-    let r3 = c .byte4 in (
-      leAt-bytes (a .b .now) (a .i) (r0 .result) (r1 .result) (r2 .result) (r3 .result) (r0 .ensures .0) (r1 .ensures .0) (r2 .ensures .0) (r3 .ensures .0),
-      omega (arith, r0 .ensures .1, r1 .ensures .1, r2 .ensures .1, r3 .ensures .1),
-    )
+    let a = c .before .before .before .args in
+    (leAt-part (a .b .now) (a .i) 4 (a .i + 4 - a .i) (c .half .result) (search needs) (omega arith) (c .half .ensures .0), c .half .ensures .1)
 
 pub half-at-spec : {M : Type 1} → statement M
-half-at-spec =
-    tie.close
-    (tie.spec
-    shared-slice-read-byte
-    byte-requires
-    add-byte
-    shared-slice-read-byte-2
-    byte-requires-2
-    add-byte-2
-    shared-slice-read-byte-3
-    byte-requires-3
-    add-byte-3
-    shared-slice-read-byte-4
-    byte-requires-4
-    mul-result
-    add-result
-    mul-result-2
-    add-result-2
-    mul-result-3
-    add-result-3
-    returns)
+half-at-spec = tie.close (tie.spec add-e sub-half part-half-start part-half-end half-requires returns)

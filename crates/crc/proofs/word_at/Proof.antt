@@ -1,30 +1,30 @@
--- `crc::word_at` is the number of eight bytes: four, and four more above them. Assumes nothing.
+-- `crc::word_at` is the number of eight bytes, lent as just those. Assumes nothing.
+use Prim.Native.Nat.{_+_, _-_}
+use native.Mathlib.Omega.{arith}
 use borrow.Author.Needs.{needs}
-use Rattle.crc.proofs.Words.{leAt-halves}
+use Rattle.crc.proofs.Words.{leAt-part}
 use Rattle.crc.proofs.word_at.Statement.{statement}
 use Rattle.crc.proofs.word_at.Tie as tie
 
-half-at-requires : tie.Need-half-at-requires
-half-at-requires c κs = search needs
+add-e : tie.Need-add-e
+add-e c = search needs
 
-add-half-at : tie.Need-add-half-at
-add-half-at c = search needs
+sub-word : tie.Need-sub-word
+sub-word c = search needs
 
-half-at-requires-2 : tie.Need-half-at-requires-2
-half-at-requires-2 c κs = search needs
+part-word-start : tie.Need-part-word-start
+part-word-start c = search needs
 
-mul-result : tie.Need-mul-result
-mul-result c = search needs
+part-word-end : tie.Need-part-word-end
+part-word-end c = search needs
 
-add-result : tie.Need-add-result
-add-result c = search needs
+word-requires : tie.Need-word-requires
+word-requires c κs = search needs
 
 returns : tie.Need-returns
 returns c =
     let a = c .before .before .before .args in
-    leAt-halves (a .b .now) (a .i) (c .before .half-at .result) (c .half-at2 .result) (c .before .half-at .ensures .0) (c .half-at2 .ensures .0)
+    leAt-part (a .b .now) (a .i) 8 (a .i + 8 - a .i) (c .word .result) (search needs) (omega arith) (c .word .ensures)
 
 pub word-at-spec : {M : Type 1} → statement M
-word-at-spec =
-    tie.close
-    (tie.spec half-at-requires add-half-at half-at-requires-2 mul-result add-result returns)
+word-at-spec = tie.close (tie.spec add-e sub-word part-word-start part-word-end word-requires returns)

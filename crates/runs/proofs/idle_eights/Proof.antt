@@ -1,12 +1,14 @@
--- `runs::idle_eights` goes on while eight more pass. Assumes nothing.
-use Prim.Native.Nat.{ℕ, _+_, _-_, _≤_}
+-- `runs::idle_eights` goes on while a word has no mark, and stops at the first mark. Assumes nothing.
+use Prim.Native.Nat.{ℕ, _+_, _-_, _≤_, _<_}
+use mathlib.Core.Path.{_≡_}
 use native.Mathlib.Omega.{arith}
-use lib.ListN.{length}
-use borrow.Author.Tests.{not-false}
+use lib.ListN.{length, take, drop}
 use borrow.Author.Needs.{needs}
-use Rattle.runs.specs.Runs.{isOf, All}
+use Rattle.laws.specs.Bytes.{Bytes}
+use Rattle.runs.specs.Runs.{isOf, lead, All}
 use Rattle.runs.specs.declared.Sort.the-variants as sort
-use Rattle.runs.proofs.Laws.{all-add, all-none}
+use Rattle.runs.proofs.Laws.{all-add, all-none, copy-all}
+use Rattle.runs.proofs.Marks.{eight-of, all-eight, some-eight}
 use Rattle.runs.proofs.idle_eights.Statement.{statement}
 use Rattle.runs.proofs.idle_eights.Tie as tie
 
@@ -25,11 +27,59 @@ loop-holds c = (search needs, all-none (isOf sort.Idle) (c .before .args .s .now
 add-loop : tie.Need-add-loop Inv-loop μ-loop
 add-loop c = search needs
 
-add-idle8 : tie.Need-add-idle8 Inv-loop μ-loop
-add-idle8 c = search needs
+add-a : tie.Need-add-a Inv-loop μ-loop
+add-a c = search needs
 
-idle8-requires : tie.Need-idle8-requires Inv-loop μ-loop
-idle8-requires c κs = search needs
+add-e : tie.Need-add-e Inv-loop μ-loop
+add-e c = search needs
+
+sub-word : tie.Need-sub-word Inv-loop μ-loop
+sub-word c = search needs
+
+part-word-start : tie.Need-part-word-start Inv-loop μ-loop
+part-word-start c = search needs
+
+part-word-end : tie.Need-part-word-end Inv-loop μ-loop
+part-word-end c = search needs
+
+word-requires : tie.Need-word-requires Inv-loop μ-loop
+word-requires c κs = search needs
+
+busy-requires : tie.Need-busy-requires Inv-loop μ-loop
+busy-requires c κs = search needs
+
+below-requires : tie.Need-below-requires Inv-loop μ-loop
+below-requires c κs = search needs
+
+filled-requires : tie.Need-filled-requires Inv-loop μ-loop
+filled-requires c κs = search needs
+
+-- what stands before the mark is counted, and is less than eight
+counted : (c : tie.After-filled Inv-loop μ-loop) → let a = c .before .before .before .before .before .before .before .before .before .args in (c .filled .result ≡ lead (isOf sort.Idle) (take 8 (drop (a .i + c .before .before .before .before .before .before .before .loop .m) (a .s .now)))) × (c .filled .result < 8)
+counted c =
+    let a = c .before .before .before .before .before .before .before .before .before .args in
+    let s = a .s .now in
+    let l = c .before .before .before .before .before .before .before .loop in
+    let at = a .i + l .m in
+    let p = isOf sort.Idle in
+    let bs = take 8 (drop at s) in
+    let word = c .before .before .before .before .word in
+    let busy = c .before .before .before .busy in
+    let placed : at + 8 ≤ length s = omega arith in
+    let known : Bytes s = λ k. c .before .before .before .before .before .before .before .before .shared-slice-known .given k .fits in
+    let few = some-eight s at (at + 8 - at) (word .result) known placed (omega arith) (word .ensures) p (busy .result) (busy .ensures) (search needs) in
+    let r = c .filled .ensures (lead p bs) few (c .before .below .ensures p bs (busy .ensures bs (eight-of s at (at + 8 - at) (word .result) known placed (omega arith) (word .ensures)))) in
+    (r, omega (arith, few, r))
+
+add-result : tie.Need-add-result Inv-loop μ-loop
+add-result c = omega (arith, counted c .1)
+
+returns : tie.Need-returns Inv-loop μ-loop
+returns c =
+    let a = c .before .before .before .before .before .before .before .before .before .args in
+    let l = c .before .before .before .before .before .before .before .loop in
+    let p = isOf sort.Idle in
+    (omega (arith, counted c .1), all-add p (a .s .now) (a .i) (l .m) (c .filled .result) (l .inv .1) (copy-all p (a .s .now) (a .i + l .m) 8 (c .filled .result) (omega arith) (counted c .0)))
 
 add-m : tie.Need-add-m Inv-loop μ-loop
 add-m c = search needs
@@ -38,17 +88,20 @@ loop-less : tie.Need-loop-less Inv-loop μ-loop
 loop-less c = search needs
 
 loop-again : tie.Need-loop-again Inv-loop μ-loop
-unfolding isOf
 loop-again c =
-    let a = c .before .before .before .before .before .args in
-    let l = c .before .before .before .loop in
-    (omega arith, all-add (isOf sort.Idle) (a .s .now) (a .i) (l .m) 8 (l .inv .1) (c .before .idle8 .ensures (not-false _ (c .if1 .left))))
-
-returns : tie.Need-returns Inv-loop μ-loop
-returns c = c .before .loop .inv
+    let a = c .before .before .before .before .before .before .before .args in
+    let s = a .s .now in
+    let l = c .before .before .before .before .before .loop in
+    let at = a .i + l .m in
+    let p = isOf sort.Idle in
+    let word = c .before .before .word in
+    let busy = c .before .busy in (
+      omega arith,
+      all-add p s (a .i) (l .m) 8 (l .inv .1) (all-eight s at (at + 8 - at) (word .result) (λ k. c .before .before .before .before .before .before .shared-slice-known .given k .fits) (omega arith) (omega arith) (word .ensures) p (busy .result) (busy .ensures) (c .if1 .left)),
+    )
 
 returns-2 : tie.Need-returns-2 Inv-loop μ-loop
-returns-2 c = c .before .before .before .loop .inv
+returns-2 c = c .before .loop .inv
 
 pub idle-eights-spec : {M : Type 1} → statement M
 idle-eights-spec =
@@ -59,10 +112,18 @@ idle-eights-spec =
     sub-left
     loop-holds
     add-loop
-    add-idle8
-    idle8-requires
+    add-a
+    add-e
+    sub-word
+    part-word-start
+    part-word-end
+    word-requires
+    busy-requires
+    below-requires
+    filled-requires
+    add-result
+    returns
     add-m
     loop-less
     loop-again
-    returns
     returns-2)

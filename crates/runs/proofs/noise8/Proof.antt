@@ -4,7 +4,8 @@ use lib.Dec.{eqb}
 use lib.ListN.{getD}
 use borrow.Author.Needs.{needs}
 use Rattle.runs.specs.Runs.{isOf}
-use Rattle.runs.proofs.Laws.{noise-is, never}
+use Rattle.laws.proofs.Cases.{never}
+use Rattle.runs.proofs.Laws.{noise-is}
 use Rattle.runs.proofs.noise8.Statement.{statement}
 use Rattle.runs.proofs.noise8.Tie as tie
 

@@ -4,7 +4,8 @@ use lib.Dec.{eqb}
 use lib.ListN.{getD}
 use borrow.Author.Needs.{needs}
 use Rattle.runs.specs.Runs.{fenced, isOf}
-use Rattle.runs.proofs.Laws.{plain-is, never}
+use Rattle.laws.proofs.Cases.{never}
+use Rattle.runs.proofs.Laws.{plain-is}
 use Rattle.runs.proofs.plain8.Statement.{statement}
 use Rattle.runs.proofs.plain8.Tie as tie
 

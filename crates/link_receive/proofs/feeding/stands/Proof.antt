@@ -3,7 +3,7 @@ use mathlib.Core.Path.{_≡_, sym, _∙_}
 use borrow.Author.Needs.{needs}
 use native.Mathlib.Omega.{arith}
 use borrow.Author.Tests.{eqb-true}
-use Rattle.runs.proofs.Laws.{never}
+use Rattle.laws.proofs.Cases.{never}
 use Rattle.link_receive.proofs.feeding.stands.Statement.{statement}
 use Rattle.link_receive.proofs.feeding.stands.Tie as tie
 
