@@ -22,9 +22,9 @@ use Rattle.link_receive.specs.declared.Receiver.{Receiver}
 use Rattle.link_receive.specs.declared.State.the-variants as state
 use Rattle.link_receive.specs.Tally.{tallyOf, raise}
 use Rattle.link_receive.specs.Step.{limit, freshOf, openOf}
-use Rattle.link_receive.specs.Feed.{feedOf}
-use Rattle.link_receive.specs.Drain.{Hosted, drainOf, framesOf, framesFed}
-use Rattle.link_receive.proofs.Drains.{hosted-drain, hosted-frames}
+use Rattle.link_feed.specs.Feed.{feedOf}
+use Rattle.link_feed.specs.Drain.{Hosted, drainOf, framesOf, framesFed}
+use Rattle.link_feed.proofs.Drains.{hosted-drain, hosted-frames}
 use Rattle.books.specs.Stands.{restAt, Since, After}
 use Rattle.books.proofs.Run.{since-more, frames-more, tallies-exact}
 use Rattle.books.proofs.Fresh.{fresh-after, fresh-frames}

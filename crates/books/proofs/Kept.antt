@@ -8,10 +8,10 @@ use borrow.Author.Tests.{le-ltb}
 use Rattle.reading.specs.Counts.{soundFrames}
 use Rattle.link_receive.specs.declared.Receiver.{Receiver}
 use Rattle.link_receive.specs.declared.Stepped.{Stepped}
-use Rattle.link_receive.specs.declared.Fed.{Fed}
+use Rattle.link_feed.specs.declared.Fed.{Fed}
 use Rattle.link_receive.specs.Step.{limit, freshOf}
-use Rattle.link_receive.specs.Feed.{feedOf}
-use Rattle.link_receive.specs.Drain.{drainOf, framesOf, framesFed, extendOf}
+use Rattle.link_feed.specs.Feed.{feedOf}
+use Rattle.link_feed.specs.Drain.{drainOf, framesOf, framesFed, extendOf}
 use Rattle.books.specs.declared.Ledger.{Ledger}
 use Rattle.books.specs.declared.Telling.{Telling}
 use Rattle.books.specs.Stands.{Since, After}

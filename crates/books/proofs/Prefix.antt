@@ -10,13 +10,13 @@ use Rattle.link.specs.Wire.{Frame}
 use Rattle.link_receive.specs.declared.Answer.{Answer}
 use Rattle.link_receive.specs.declared.Answer.the-variants as answer
 use Rattle.link_receive.specs.declared.Receiver.{Receiver}
-use Rattle.link_receive.specs.declared.Fed.{Fed}
+use Rattle.link_feed.specs.declared.Fed.{Fed}
 use Rattle.link_receive.specs.Step.{limit, stepOf}
 use Rattle.link_receive.specs.Frames.{handedOut}
-use Rattle.link_receive.specs.Feed.{stopped, fedOn, feedFrom, feedOf}
-use Rattle.link_receive.specs.Drain.{drainOf, framesOf, framesFed}
-use Rattle.link_receive.proofs.Feeds.{feedOf-within}
-use Rattle.link_receive.proofs.Drains.{Steady, stepOf-steady}
+use Rattle.link_feed.specs.Feed.{stopped, fedOn, feedFrom, feedOf}
+use Rattle.link_feed.specs.Drain.{drainOf, framesOf, framesFed}
+use Rattle.link_feed.proofs.Feeds.{feedOf-within}
+use Rattle.link_feed.proofs.Drains.{Steady, stepOf-steady}
 
 module _ (check : List ℕ → ℕ) where
   -- a feeding that took n bytes before it began

@@ -23,17 +23,17 @@ use Rattle.link_receive.specs.declared.Receiver.{Receiver}
 use Rattle.link_receive.specs.declared.Tallies.{Tallies}
 use Rattle.link_receive.specs.Tally.{raise}
 use Rattle.link_receive.specs.declared.Stepped.{Stepped}
-use Rattle.link_receive.specs.declared.Fed.{Fed}
+use Rattle.link_feed.specs.declared.Fed.{Fed}
 use Rattle.link_receive.specs.declared.Parsed.{Parsed}
 use Rattle.link_receive.specs.declared.Parsed.the-variants.{Sound, Dropped}
 use Rattle.link_receive.specs.declared.Move.the-variants.{Close}
 use Rattle.link_receive.specs.Step.{limit, turnOf, parsedOf, closedOf, stepOf}
 use Rattle.link_receive.specs.Frames.{handedOut}
-use Rattle.link_receive.specs.Feed.{stopped, fedOn, feedFrom, feedOf}
-use Rattle.link_receive.specs.Drain.{drainOf, framesOf, framesFed}
+use Rattle.link_feed.specs.Feed.{stopped, fedOn, feedFrom, feedOf}
+use Rattle.link_feed.specs.Drain.{drainOf, framesOf, framesFed}
 use Rattle.link_receive.proofs.Steps.{stepOf-within}
-use Rattle.link_receive.proofs.Feeds.{feedOf-within}
-use Rattle.link_receive.proofs.Drains.{stepOf-steady, drainOf-append, framesOf-append}
+use Rattle.link_feed.proofs.Feeds.{feedOf-within}
+use Rattle.link_feed.proofs.Drains.{stepOf-steady, drainOf-append, framesOf-append}
 use Rattle.books.specs.Stands.{restOf, restAt}
 use Rattle.books.proofs.Link.{raisedBy}
 use Rattle.books.proofs.Run.{Runs, runs}

@@ -22,7 +22,7 @@ use Rattle.link_receive.specs.declared.Receiver.{Receiver}
 use Rattle.link_receive.specs.declared.Tallies.{Tallies}
 use Rattle.link_receive.specs.Tally.{tallyOf, raise}
 use Rattle.link_receive.specs.Step.{limit, stepOf}
-use Rattle.link_receive.specs.Drain.{drainOf, framesOf}
+use Rattle.link_feed.specs.Drain.{drainOf, framesOf}
 use Rattle.books.specs.Stands.{restAt, Since, After}
 use Rattle.books.proofs.Link.{raisedBy, Linked, link}
 

@@ -7,10 +7,10 @@ use Rattle.reading.specs.Grammar.{Piece, Reading}
 use Rattle.reading.specs.Counts.{soundFrames}
 use Rattle.link_receive.specs.declared.Answer.the-variants.{Nothing}
 use Rattle.link_receive.specs.declared.Receiver.{Receiver}
-use Rattle.link_receive.specs.declared.Fed.{Fed}
+use Rattle.link_feed.specs.declared.Fed.{Fed}
 use Rattle.link_receive.specs.Step.{limit}
-use Rattle.link_receive.specs.Feed.{feedOf}
-use Rattle.link_receive.specs.Drain.{framesFed}
+use Rattle.link_feed.specs.Feed.{feedOf}
+use Rattle.link_feed.specs.Drain.{framesFed}
 use Rattle.books.specs.Stands.{Since}
 
 module _ (check : List ℕ → ℕ) where

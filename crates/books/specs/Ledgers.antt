@@ -11,7 +11,7 @@ use Rattle.laws.specs.Handed.{Handed, refused, value}
 use Rattle.link_receive.specs.declared.Receiver.{Receiver}
 use Rattle.link_receive.specs.declared.Stepped.{Stepped}
 use Rattle.link_receive.specs.Step.{limit, openOf}
-use Rattle.link_receive.specs.Drain.{extendOf}
+use Rattle.link_feed.specs.Drain.{extendOf}
 use Rattle.books.specs.declared.Ledger.{Ledger}
 use Rattle.books.specs.declared.Telling.{Telling}
 use Rattle.books.specs.declared.Telling.the-variants.{So, Refused}

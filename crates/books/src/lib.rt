@@ -4,7 +4,7 @@ ghost use mathlib.Core.Path.{_≡_};
 ghost use Rattle.crc.specs.Crc.{crcOf};
 ghost use Rattle.books.specs.Ledgers.{ledgerAt, Ledgered, Absorbed, ToldAs};
 ghost use Rattle.books.specs.Gives.{Gave};
-use link_receive::Fed;
+use link_feed::Fed;
 use link_receive::Receiver;
 use link_receive::Stepped;
 
@@ -62,14 +62,14 @@ pub fn told(r: Receiver) -> Telling
 pub fn absorb(r: Receiver, s: &[u8]) -> Stepped
     ensures { λ x. ⌜ Absorbed crcOf r (now (s .entry)) x ⌝ }
 {
-    r.extend_from_slice(s)
+    link_feed::extend_from_slice(r, s)
 }
 
 // Takes a block in up to its first frame, which it hands out, or its end. Refused by 12, with nothing taken, as a step is.
 pub fn give(r: Receiver, s: &[u8]) -> Fed
     ensures { λ f. ⌜ Gave crcOf r (now (s .entry)) f ⌝ }
 {
-    r.feed(s)
+    link_feed::feed(r, s)
 }
 
 // The ledger of a whole slice.

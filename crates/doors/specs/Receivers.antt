@@ -7,11 +7,11 @@ use Rattle.link_receive.specs.declared.Answer.{Answer}
 use Rattle.link_receive.specs.declared.Answer.the-variants as answer
 use Rattle.crc.specs.Crc.{crcOf}
 use Rattle.link_receive.specs.declared.Stepped.{Stepped}
-use Rattle.link_receive.specs.declared.Fed.{Fed}
+use Rattle.link_feed.specs.declared.Fed.{Fed}
 use Rattle.link_receive.specs.Step.{stepOf, freshOf, resetOf}
-use Rattle.link_receive.specs.Feed.{feedOf}
-use Rattle.link_receive.specs.Drain.{extendOf}
-use Rattle.link_receive.specs.Lent.{receiverAt}
+use Rattle.link_feed.specs.Feed.{feedOf}
+use Rattle.link_feed.specs.Drain.{extendOf}
+use Rattle.link_feed.specs.Lent.{receiverAt}
 use Rattle.doors.specs.Numbered.{numbered}
 
 -- 0 for nothing, 1 for a frame, 2^32 times 12 for the refusal

@@ -1,7 +1,7 @@
 // The link receiver's doors. Its state crosses as ten numbers (the state's own, the length, and the eight tallies in the ledger's order)
 // and the 256 bytes of its body, both lent and left as the call leaves them.
 ghost use mathlib.Core.Path.{_≡_};
-ghost use Rattle.link_receive.specs.Lent.{receiverAt, placeOf, placeFed};
+ghost use Rattle.link_feed.specs.Lent.{receiverAt, placeOf, placeFed};
 ghost use Rattle.doors.specs.Receivers.{told, foundOf, pushedAt, fedAt, resetAt, heardOf};
 use link_receive::Answer;
 use link_receive::Receiver;
@@ -11,7 +11,7 @@ use link_receive::Tallies;
 fn receiver_at(place: [u64; 10], body: [u8; 256]) -> Receiver
     ensures { λ r. ⌜ r ≡ receiverAt place body ⌝ }
 {
-    let state = link_receive::lending::state_at(place[0]);
+    let state = link_feed::lending::state_at(place[0]);
     Receiver {
         state: state,
         body: body,
@@ -35,7 +35,7 @@ fn place_of(r: Receiver) -> [u64; 10]
 {
     let state = r.state;
     let t = r.tallies;
-    let n = link_receive::lending::state_number(state);
+    let n = link_feed::lending::state_number(state);
     [
         n,
         r.len as u64,
@@ -126,7 +126,7 @@ pub extern "C" fn johkkesir_feed(
     ensures { λ _. ⌜ now (body .exit) ≡ fedAt (now (place .entry)) (now (body .entry)) (now (s .entry)) .next .body ⌝ }
     ensures { λ _. ⌜ now (found .exit) ≡ foundOf (fedAt (now (place .entry)) (now (body .entry)) (now (s .entry)) .taken) (fedAt (now (place .entry)) (now (body .entry)) (now (s .entry)) .answer) ⌝ }
 {
-    let f = link_receive::lending::feed_in(place, body, s);
+    let f = link_feed::lending::feed_in(place, body, s);
     let answer = f.answer;
     let news = found_by(f.taken as u64, answer);
     *found = news;
@@ -159,7 +159,7 @@ pub extern "C" fn johkkesir_ledger(s: &[u8], place: &mut [u64; 10])
     ensures { λ _. ⌜ now (place .exit) ≡ placeOf (heardOf (now (s .entry))) ⌝ }
 {
     let r = Receiver::new();
-    let f = r.extend_from_slice(s);
+    let f = link_feed::extend_from_slice(r, s);
     let next = f.next;
     let numbers = place_of(next);
     *place = numbers;

@@ -40,7 +40,7 @@ fn fail(what: &[u8]) {
 
 // The receiver that ten numbers and a body say.
 fn receiver_at(place: &[u64; 10], body: [u8; 256]) -> Receiver {
-    let state = link_receive::lending::state_at(place[0]);
+    let state = link_feed::lending::state_at(place[0]);
     Receiver {
         state: state,
         body: body,

@@ -16,8 +16,8 @@ use Rattle.link_receive.specs.declared.State.{State}
 use Rattle.link_receive.specs.declared.Tallies.{Tallies}
 use Rattle.link_receive.specs.Tally.{tallyOf, zeros}
 use Rattle.link_receive.specs.Step.{limit, freshOf, openOf}
-use Rattle.link_receive.specs.Drain.{Hosted, drainOf, framesOf}
-use Rattle.link_receive.proofs.Drains.{hosted}
+use Rattle.link_feed.specs.Drain.{Hosted, drainOf, framesOf}
+use Rattle.link_feed.proofs.Drains.{hosted}
 use Rattle.books.proofs.Demands as books
 use Rattle.lent.specs.Lent.{lentTo, LentRun, Balanced}
 use Rattle.lent.proofs.Runs.{lentRun-drain, lentRun-frames}

@@ -6,16 +6,16 @@ use lib.ListN.{drop}
 use Rattle.link.specs.Wire.{Frame}
 use Rattle.link_receive.specs.declared.Receiver.{Receiver}
 use Rattle.link_receive.specs.declared.Stepped.{Stepped}
-use Rattle.link_receive.specs.declared.Fed.{Fed}
+use Rattle.link_feed.specs.declared.Fed.{Fed}
 use Rattle.link_receive.specs.declared.Answer.the-variants.{Refused}
 use Rattle.link_receive.specs.declared.Tallies.{Tallies}
 use Rattle.link_receive.specs.Frames.{handedOut}
 use Rattle.link_receive.specs.Step.{limit, refusedOf, stepOf}
-use Rattle.link_receive.specs.Feed.{stopped, feedOf}
-use Rattle.link_receive.specs.Drain.{drainOf, framesOf, framesFed}
+use Rattle.link_feed.specs.Feed.{stopped, feedOf}
+use Rattle.link_feed.specs.Drain.{drainOf, framesOf, framesFed}
 use Rattle.link_receive.proofs.Steps.{stepOf-over}
-use Rattle.link_receive.proofs.Feeds.{feedOf-over}
-use Rattle.link_receive.proofs.Drains.{drainOf-append, framesOf-append, drainOf-feed, framesOf-feed}
+use Rattle.link_feed.proofs.Feeds.{feedOf-over}
+use Rattle.link_feed.proofs.Drains.{drainOf-append, framesOf-append, drainOf-feed, framesOf-feed}
 use Rattle.lent.specs.Lent.{lentTo, Pushed, FedWith, LentRun, used-up, pushes, feeds}
 
 module _ (check : List ℕ → ℕ) where

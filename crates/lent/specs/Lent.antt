@@ -6,15 +6,15 @@ use lib.ListN.{drop}
 use Rattle.link.specs.Wire.{Frame}
 use Rattle.link_receive.specs.declared.Receiver.{Receiver}
 use Rattle.link_receive.specs.declared.Stepped.{Stepped}
-use Rattle.link_receive.specs.declared.Fed.{Fed}
+use Rattle.link_feed.specs.declared.Fed.{Fed}
 use Rattle.link_receive.specs.declared.Tallies.{Tallies}
 use Rattle.reading.specs.Kinds as k
 use Rattle.link_receive.specs.declared.State.{State}
 use Rattle.link_receive.specs.Frames.{handedOut}
 use Rattle.link_receive.specs.Tally.{tallyOf}
 use Rattle.link_receive.specs.Step.{stepOf, openOf}
-use Rattle.link_receive.specs.Feed.{feedOf}
-use Rattle.link_receive.specs.Drain.{framesFed}
+use Rattle.link_feed.specs.Feed.{feedOf}
+use Rattle.link_feed.specs.Drain.{framesFed}
 
 -- a receiver with lent tallies in the place of its own
 abbrev pub lentTo : Receiver → Tallies → Receiver

@@ -2,9 +2,9 @@
 ghost use mathlib.Core.Path.{_≡_};
 ghost use Rattle.crc.specs.Crc.{crcOf};
 ghost use Rattle.link_receive.specs.Step.{stepOf};
-ghost use Rattle.link_receive.specs.Feed.{feedOf};
+ghost use Rattle.link_feed.specs.Feed.{feedOf};
 ghost use Rattle.lent.specs.Lent.{lentTo, Pushed, FedWith};
-use link_receive::Fed;
+use link_feed::Fed;
 use link_receive::Receiver;
 use link_receive::Stepped;
 use link_receive::Tallies;
@@ -36,7 +36,7 @@ fn feed_with(r: Receiver, t: Tallies, s: &[u8]) -> Fed
     ensures { λ x. ⌜ x ≡ feedOf crcOf (lentTo r t) (now (s .entry)) ⌝ }
 {
     let q = with(r, t);
-    q.feed(s)
+    link_feed::feed(q, s)
 }
 
 // One byte, with tallies that a host lends: they stand in the place of the receiver's own, and are updated in place. Refused by 12 as a

@@ -1,26 +1,20 @@
-// The gateway link layer's receiver (link/receive.rs): bytes to frames. The receiver is a state handed in and handed back by each step.
+// The gateway link layer's receiver (link/receive.rs): bytes to frames, one byte at a time. The receiver is a state handed in and handed back by each step.
+// Slices are fed by crates/link_feed.
 ghost use mathlib.Core.Path.{_≡_};
 ghost use Rattle.crc.specs.Crc.{crcOf};
-ghost use Rattle.link_receive.specs.Tally.{kindOf, raise, numbersOf, talliesAt};
+ghost use Rattle.link_receive.specs.Tally.{kindOf, raise};
 ghost use Rattle.link_receive.specs.Frames.{payloadOf};
 ghost use Rattle.link_receive.specs.Step.{openOf, stepOf, freshOf, resetOf};
-ghost use Rattle.link_receive.specs.Feed.{feedOf};
-ghost use Rattle.link_receive.specs.Drain.{extendOf};
 use address::Address;
 use by_value::closed;
 use by_value::counted;
 use by_value::pushed;
 use by_value::to;
-use feeding::advance;
-use feeding::fed;
 use link::Type;
 use moves::turn;
 
 mod by_value;
-mod feeding;
-pub mod lending;
-mod moves;
-mod tails;
+pub mod moves;
 
 // Where the receiver stands in the stream.
 pub enum State {
@@ -83,40 +77,6 @@ impl Tallies {
         broken: 0,
         noise: 0,
     };
-
-    // The eight numbers in the ledger's order, behind two that are 0.
-    fn numbers(self) -> [u64; 10]
-        ensures { λ r. ⌜ r ≡ numbersOf self ⌝ }
-    {
-        [
-            0,
-            0,
-            self.openings,
-            self.frames,
-            self.runts,
-            self.checksums,
-            self.giants,
-            self.escaped,
-            self.broken,
-            self.noise,
-        ]
-    }
-
-    // The tallies among ten numbers: all but the first two.
-    fn of(place: [u64; 10]) -> Tallies
-        ensures { λ r. ⌜ r ≡ talliesAt place ⌝ }
-    {
-        Tallies {
-            openings: place[2],
-            frames: place[3],
-            runts: place[4],
-            checksums: place[5],
-            giants: place[6],
-            escaped: place[7],
-            broken: place[8],
-            noise: place[9],
-        }
-    }
 
     // One more of a kind.
     fn raised(mut self, tally: Tally) -> Tallies
@@ -217,47 +177,6 @@ pub struct Stepped {
     pub answer: Answer,
 }
 
-// The same, with the number of bytes taken.
-pub struct Fed {
-    pub next: Receiver,
-    pub answer: Answer,
-    pub taken: usize,
-}
-
-// How many units are held, and how many bytes of a slice were taken.
-struct Place {
-    len: usize,
-    at: usize,
-}
-
-// What stands at a place: the pair that opens a frame, outside one; the pair that closes the open frame; or whatever else.
-enum Pair {
-    Opener,
-    Closer,
-    Neither,
-}
-
-// A receiver after one byte, its body and tallies beside it, and what it hands out.
-struct Stood {
-    state: State,
-    len: usize,
-    answer: Answer,
-}
-
-// What a feeding stopped with: the parts of the receiver beside its body and tallies, the answer, and how many bytes of the slice were taken.
-struct Advanced {
-    state: State,
-    len: usize,
-    answer: Answer,
-    at: usize,
-}
-
-// What a feeding over a lent receiver hands out, and how many bytes were taken.
-pub struct FedIn {
-    pub answer: Answer,
-    pub taken: usize,
-}
-
 impl Receiver {
     pub const MAX_FRAME_SIZE: usize = 256;
 
@@ -324,58 +243,6 @@ impl Receiver {
         self.tallies = zero;
         Stepped {
             next: self,
-            answer: Answer::Nothing,
-        }
-    }
-
-    // A slice, up to the first frame handed out or its end. Refused by 12, with nothing changed and nothing taken, if the
-    // length is over the limit.
-    pub fn feed(self, s: &[u8]) -> Fed
-        ensures { λ r. ⌜ r ≡ feedOf crcOf self (now (s .entry)) ⌝ }
-    {
-        let state = self.state;
-        let mut tallies = self.tallies.numbers();
-        let mut body = self.body;
-        let a = fed(state, self.len, &mut tallies, &mut body, s);
-        let next = a.state;
-        let answer = a.answer;
-        let counts = Tallies::of(tallies);
-        Fed {
-            next: Receiver {
-                state: next,
-                body: body,
-                len: a.len,
-                tallies: counts,
-            },
-            answer: answer,
-            taken: a.at,
-        }
-    }
-
-    // A whole slice, through every frame; the frames are not looked at. Refused by 12 as a step is.
-    pub fn extend_from_slice(self, s: &[u8]) -> Stepped
-        ensures { λ r. ⌜ r ≡ extendOf crcOf self (now (s .entry)) ⌝ }
-    {
-        let len = self.len;
-        if Receiver::MAX_FRAME_SIZE < len {
-            return Stepped {
-                next: self,
-                answer: Answer::Refused,
-            };
-        }
-        let state = self.state;
-        let mut tallies = self.tallies.numbers();
-        let mut body = self.body;
-        let a = advance(state, len, &mut tallies, &mut body, s, 0, false);
-        let next = a.state;
-        let counts = Tallies::of(tallies);
-        Stepped {
-            next: Receiver {
-                state: next,
-                body: body,
-                len: a.len,
-                tallies: counts,
-            },
             answer: Answer::Nothing,
         }
     }

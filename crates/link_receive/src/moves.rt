@@ -1,6 +1,5 @@
 // What a byte asks of the receiver, and the verdict on a closed body.
 ghost use mathlib.Core.Path.{_≡_};
-ghost use Rattle.laws.specs.Bytes.{of16};
 ghost use Rattle.crc.specs.Crc.{crcOf};
 ghost use Rattle.link_receive.specs.Step.{turnOf, parsedOf};
 use crate::Move;
@@ -11,6 +10,7 @@ use crate::Tally;
 use address::Address;
 use escaping::Unescaped;
 use link::Type;
+use words::be16;
 
 // The byte after 7e inside a frame that holds `len` units.
 fn turn_escaped(len: usize, b: u8) -> Move
@@ -73,13 +73,6 @@ pub fn turn(state: State, len: usize, b: u8) -> Move
     }
 }
 
-// Two bytes as a number, the higher first.
-pub fn number(hi: u8, lo: u8) -> u16
-    ensures { λ r. ⌜ r ≡ of16 hi lo ⌝ }
-{
-    (hi as u16) * 256 + (lo as u16)
-}
-
 // The verdict on a closed body.
 pub fn parse_frame(body: &[u8]) -> Parsed
     ensures { λ r. ⌜ r ≡ parsedOf crcOf (now (body .entry)) ⌝ }
@@ -90,10 +83,10 @@ pub fn parse_frame(body: &[u8]) -> Parsed
     }
     let m = n - 2;
     let crc = crc::crc(&body[..m]);
-    let expected = number(body[n - 1], body[m]);
+    let expected = be16(body[n - 1], body[m]);
     if crc == expected {
-        let address = Address::from_u16(number(body[0], body[1]));
-        let kind = number(body[2], body[3]);
+        let address = Address::from_u16(be16(body[0], body[1]));
+        let kind = be16(body[2], body[3]);
         Parsed::Sound {
             address: address,
             frame_type: Type(kind),

@@ -46,22 +46,26 @@ use Rattle.link.proofs.encode.Kinds as link·encode·kinds
 use Rattle.link.proofs.encode.Reads as link·encode·reads
 use Rattle.link_receive.proofs.open_frames.Kinds as link-receive·open-frames·kinds
 use Rattle.link_receive.proofs.open_frames.Reads as link-receive·open-frames·reads
-use Rattle.link_receive.proofs.lending.state_at.Kinds as link-receive·lending·state-at·kinds
-use Rattle.link_receive.proofs.lending.state_at.Reads as link-receive·lending·state-at·reads
-use Rattle.link_receive.proofs.lending.state_number.Kinds as link-receive·lending·state-number·kinds
-use Rattle.link_receive.proofs.lending.state_number.Reads as link-receive·lending·state-number·reads
-use Rattle.link_receive.proofs.lending.feed_in.Kinds as link-receive·lending·feed-in·kinds
-use Rattle.link_receive.proofs.lending.feed_in.Reads as link-receive·lending·feed-in·reads
+use Rattle.link_receive.proofs.moves.turn.Kinds as link-receive·moves·turn·kinds
+use Rattle.link_receive.proofs.moves.turn.Reads as link-receive·moves·turn·reads
+use Rattle.link_receive.proofs.moves.parse_frame.Kinds as link-receive·moves·parse-frame·kinds
+use Rattle.link_receive.proofs.moves.parse_frame.Reads as link-receive·moves·parse-frame·reads
+use Rattle.link_feed.proofs.lending.state_at.Kinds as link-feed·lending·state-at·kinds
+use Rattle.link_feed.proofs.lending.state_at.Reads as link-feed·lending·state-at·reads
+use Rattle.link_feed.proofs.lending.state_number.Kinds as link-feed·lending·state-number·kinds
+use Rattle.link_feed.proofs.lending.state_number.Reads as link-feed·lending·state-number·reads
+use Rattle.link_feed.proofs.lending.feed_in.Kinds as link-feed·lending·feed-in·kinds
+use Rattle.link_feed.proofs.lending.feed_in.Reads as link-feed·lending·feed-in·reads
 use Rattle.link_receive.proofs.Receiver.new.Kinds as link-receive·Receiver·new·kinds
 use Rattle.link_receive.proofs.Receiver.new.Reads as link-receive·Receiver·new·reads
 use Rattle.link_receive.proofs.Receiver.push_u8.Kinds as link-receive·Receiver·push-u8·kinds
 use Rattle.link_receive.proofs.Receiver.push_u8.Reads as link-receive·Receiver·push-u8·reads
 use Rattle.link_receive.proofs.Receiver.reset_counters.Kinds as link-receive·Receiver·reset-counters·kinds
 use Rattle.link_receive.proofs.Receiver.reset_counters.Reads as link-receive·Receiver·reset-counters·reads
-use Rattle.link_receive.proofs.Receiver.feed.Kinds as link-receive·Receiver·feed·kinds
-use Rattle.link_receive.proofs.Receiver.feed.Reads as link-receive·Receiver·feed·reads
-use Rattle.link_receive.proofs.Receiver.extend_from_slice.Kinds as link-receive·Receiver·extend-from-slice·kinds
-use Rattle.link_receive.proofs.Receiver.extend_from_slice.Reads as link-receive·Receiver·extend-from-slice·reads
+use Rattle.link_feed.proofs.feed.Kinds as link-feed·feed·kinds
+use Rattle.link_feed.proofs.feed.Reads as link-feed·feed·reads
+use Rattle.link_feed.proofs.extend_from_slice.Kinds as link-feed·extend-from-slice·kinds
+use Rattle.link_feed.proofs.extend_from_slice.Reads as link-feed·extend-from-slice·reads
 use Rattle.books.proofs.told.Kinds as books·told·kinds
 use Rattle.books.proofs.told.Reads as books·told·reads
 use Rattle.books.proofs.absorb.Kinds as books·absorb·kinds
@@ -178,6 +182,8 @@ use Rattle.words.proofs.word.Kinds as words·word·kinds
 use Rattle.words.proofs.word.Reads as words·word·reads
 use Rattle.words.proofs.put_word.Kinds as words·put-word·kinds
 use Rattle.words.proofs.put_word.Reads as words·put-word·reads
+use Rattle.words.proofs.be16.Kinds as words·be16·kinds
+use Rattle.words.proofs.be16.Reads as words·be16·reads
 use Rattle.runs.proofs.is.Kinds as runs·is·kinds
 use Rattle.runs.proofs.is.Reads as runs·is·reads
 use Rattle.runs.proofs.run.Kinds as runs·run·kinds
@@ -242,14 +248,20 @@ link·encode κs a x y u v p q = (handed-same x y (p .0 ∙ sym (q .0)), cc)
 pub link-receive·open-frames : Determined 0 link-receive·open-frames·kinds.ps link-receive·open-frames·kinds.r link-receive·open-frames·reads.Learnt
 link-receive·open-frames κs a x y u v p q = (p ∙ sym q, refl)
 
-pub link-receive·lending·state-at : Determined 0 link-receive·lending·state-at·kinds.ps link-receive·lending·state-at·kinds.r link-receive·lending·state-at·reads.Learnt
-link-receive·lending·state-at κs a x y u v p q = (p ∙ sym q, refl)
+pub link-receive·moves·turn : Determined 0 link-receive·moves·turn·kinds.ps link-receive·moves·turn·kinds.r link-receive·moves·turn·reads.Learnt
+link-receive·moves·turn κs a x y u v p q = (p ∙ sym q, refl)
 
-pub link-receive·lending·state-number : Determined 0 link-receive·lending·state-number·kinds.ps link-receive·lending·state-number·kinds.r link-receive·lending·state-number·reads.Learnt
-link-receive·lending·state-number κs a x y u v p q = (p ∙ sym q, refl)
+pub link-receive·moves·parse-frame : Determined 1 link-receive·moves·parse-frame·kinds.ps link-receive·moves·parse-frame·kinds.r link-receive·moves·parse-frame·reads.Learnt
+link-receive·moves·parse-frame κs a x y u v p q = (p ∙ sym q, refl)
 
-pub link-receive·lending·feed-in : Determined 3 link-receive·lending·feed-in·kinds.ps link-receive·lending·feed-in·kinds.r link-receive·lending·feed-in·reads.Learnt
-link-receive·lending·feed-in κs a x y u v p q = (p .0 ∙ sym (q .0), cc)
+pub link-feed·lending·state-at : Determined 0 link-feed·lending·state-at·kinds.ps link-feed·lending·state-at·kinds.r link-feed·lending·state-at·reads.Learnt
+link-feed·lending·state-at κs a x y u v p q = (p ∙ sym q, refl)
+
+pub link-feed·lending·state-number : Determined 0 link-feed·lending·state-number·kinds.ps link-feed·lending·state-number·kinds.r link-feed·lending·state-number·reads.Learnt
+link-feed·lending·state-number κs a x y u v p q = (p ∙ sym q, refl)
+
+pub link-feed·lending·feed-in : Determined 3 link-feed·lending·feed-in·kinds.ps link-feed·lending·feed-in·kinds.r link-feed·lending·feed-in·reads.Learnt
+link-feed·lending·feed-in κs a x y u v p q = (p .0 ∙ sym (q .0), cc)
 
 pub link-receive·Receiver·new : Determined 0 link-receive·Receiver·new·kinds.ps link-receive·Receiver·new·kinds.r link-receive·Receiver·new·reads.Learnt
 link-receive·Receiver·new κs a x y u v p q = (p ∙ sym q, refl)
@@ -260,11 +272,11 @@ link-receive·Receiver·push-u8 κs a x y u v p q = (p ∙ sym q, refl)
 pub link-receive·Receiver·reset-counters : Determined 0 link-receive·Receiver·reset-counters·kinds.ps link-receive·Receiver·reset-counters·kinds.r link-receive·Receiver·reset-counters·reads.Learnt
 link-receive·Receiver·reset-counters κs a x y u v p q = (p ∙ sym q, refl)
 
-pub link-receive·Receiver·feed : Determined 1 link-receive·Receiver·feed·kinds.ps link-receive·Receiver·feed·kinds.r link-receive·Receiver·feed·reads.Learnt
-link-receive·Receiver·feed κs a x y u v p q = (p ∙ sym q, refl)
+pub link-feed·feed : Determined 1 link-feed·feed·kinds.ps link-feed·feed·kinds.r link-feed·feed·reads.Learnt
+link-feed·feed κs a x y u v p q = (p ∙ sym q, refl)
 
-pub link-receive·Receiver·extend-from-slice : Determined 1 link-receive·Receiver·extend-from-slice·kinds.ps link-receive·Receiver·extend-from-slice·kinds.r link-receive·Receiver·extend-from-slice·reads.Learnt
-link-receive·Receiver·extend-from-slice κs a x y u v p q = (p ∙ sym q, refl)
+pub link-feed·extend-from-slice : Determined 1 link-feed·extend-from-slice·kinds.ps link-feed·extend-from-slice·kinds.r link-feed·extend-from-slice·reads.Learnt
+link-feed·extend-from-slice κs a x y u v p q = (p ∙ sym q, refl)
 
 pub books·told : Determined 0 books·told·kinds.ps books·told·kinds.r books·told·reads.Learnt
 books·told κs a x y u v p q = (p .exactly ∙ sym (q .exactly), refl)
@@ -439,6 +451,9 @@ words·word κs a x y u v p q = (p ∙ sym q, refl)
 
 pub words·put-word : Determined 1 words·put-word·kinds.ps words·put-word·kinds.r words·put-word·reads.Learnt
 words·put-word κs a x y u v p q = (refl, ap (λ (z : List ℕ). (at-last (a .0) z, (a .1 .0, tt))) (p ∙ sym q))
+
+pub words·be16 : Determined 0 words·be16·kinds.ps words·be16·kinds.r words·be16·reads.Learnt
+words·be16 κs a x y u v p q = (p ∙ sym q, refl)
 
 pub runs·is : Determined 0 runs·is·kinds.ps runs·is·kinds.r runs·is·reads.Learnt
 runs·is κs a x y u v p q = (p ∙ sym q, refl)

@@ -13,7 +13,7 @@ use denote.Ref.{RefT, now, at-last}
 use Rattle.promises.specs.Determined.{Says, DeterminedBy, SaidBy}
 use Rattle.crc.specs.Crc.{crcOf}
 use Rattle.link_receive.specs.declared.Stepped.{Stepped}
-use Rattle.link_receive.specs.declared.Fed.{Fed}
+use Rattle.link_feed.specs.declared.Fed.{Fed}
 use Rattle.link_receive.specs.declared.Tallies.{Tallies}
 use Rattle.network.specs.declared.received_packets.ReceivedPackets.{ReceivedPackets}
 use Rattle.network.specs.Walker.{Next}

@@ -1,6 +1,8 @@
 // Four or eight bytes at once as one number, the first byte lowest. A caller lends just those bytes, so that their length need not be asked at run time.
+// And two bytes as a number, the first byte highest.
 ghost use mathlib.Core.Path.{_≡_};
 ghost use Prim.Native.Nat.{_^_, _<_};
+ghost use Rattle.laws.specs.Bytes.{of16};
 ghost use Rattle.words.specs.Words.{numberOf, putOf};
 
 // A byte as a word.
@@ -48,4 +50,11 @@ pub fn put_word(d: &mut [u8], x: u64)
     d[5] = ((x >> 40) % 256) as u8;
     d[6] = ((x >> 48) % 256) as u8;
     d[7] = ((x >> 56) % 256) as u8;
+}
+
+// Two bytes as a number, the higher first.
+pub fn be16(hi: u8, lo: u8) -> u16
+    ensures { λ r. ⌜ r ≡ of16 hi lo ⌝ }
+{
+    (hi as u16) * 256 + (lo as u16)
 }

@@ -2,7 +2,7 @@
 use native.Mathlib.Omega.{arith}
 use borrow.Author.Needs.{needs}
 use Rattle.crc.specs.Crc.{crcOf}
-use Rattle.link_receive.proofs.Lent.{lent-takes}
+use Rattle.link_feed.proofs.Lent.{lent-takes}
 use Rattle.frames.proofs.feed_from.Statement.{statement}
 use Rattle.frames.proofs.feed_from.Tie as tie
 

@@ -44,16 +44,16 @@ use denote.Triple.Walked.{says, Stays, stay-ref, stay-none, stay-none-slice, wal
 use denote.Exit.{yes}
 use Rattle.link_receive.specs.declared.Tallies.{Tallies}
 use Rattle.link_receive.specs.declared.Receiver.{Receiver}
-use Rattle.link_receive.specs.declared.Fed.{Fed}
+use Rattle.link_feed.specs.declared.Fed.{Fed}
 use Rattle.crc.specs.Crc.{crcOf}
-use Rattle.link_receive.specs.Feed.{feedOf}
+use Rattle.link_feed.specs.Feed.{feedOf}
 use Rattle.lent.specs.Lent.{lentTo}
 use Rattle.link_receive.proofs.Tallies as T
 use Rattle.link_receive.proofs.Tallies.Laws as T′
 use Rattle.link_receive.proofs.Receiver as S
 use Rattle.link_receive.proofs.Receiver.Laws as S′
-use Rattle.link_receive.proofs.Fed as O
-use Rattle.link_receive.proofs.Fed.Laws as O′
+use Rattle.link_feed.proofs.Fed as O
+use Rattle.link_feed.proofs.Fed.Laws as O′
 use Rattle.lent.proofs.feed_with as feeds
 use Rattle.lent.proofs.feed_with.Symbol as feeds-def
 use Rattle.lent.proofs.feed_with.Symbol.{name as #lent·feed-with}

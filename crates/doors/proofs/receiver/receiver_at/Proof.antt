@@ -1,7 +1,7 @@
 -- `doors::receiver::receiver_at` puts each number in its field. Assumes nothing.
 use mathlib.Core.Path.{_≡_}
 use borrow.Author.Needs.{needs}
-use Rattle.link_receive.specs.Tally.{talliesAt}
+use Rattle.link_feed.specs.Numbers.{talliesAt}
 use Rattle.doors.proofs.receiver.receiver_at.Statement.{statement}
 use Rattle.doors.proofs.receiver.receiver_at.Tie as tie
 

@@ -27,53 +27,53 @@ slice-aggregate-crc c = sym (length-take-le _ _ (omega arith))
 crc-requires : tie.Need-crc-requires
 crc-requires c κs = search needs
 
-sub-number : tie.Need-sub-number
-sub-number c = search needs
+sub-be16 : tie.Need-sub-be16
+sub-be16 c = search needs
 
-shared-slice-read-number : tie.Need-shared-slice-read-number
-shared-slice-read-number c = search needs
+shared-slice-read-be16 : tie.Need-shared-slice-read-be16
+shared-slice-read-be16 c = search needs
 
-shared-slice-read-number-2 : tie.Need-shared-slice-read-number-2
-shared-slice-read-number-2 c = search needs
+shared-slice-read-be16-2 : tie.Need-shared-slice-read-be16-2
+shared-slice-read-be16-2 c = search needs
 
-number-requires : tie.Need-number-requires
-number-requires c κs = search needs
+be16-requires : tie.Need-be16-requires
+be16-requires c κs = search needs
 
-shared-slice-read-number-3 : tie.Need-shared-slice-read-number-3
-shared-slice-read-number-3 c = search needs
+shared-slice-read-be16-3 : tie.Need-shared-slice-read-be16-3
+shared-slice-read-be16-3 c = search needs
 
-shared-slice-read-number-4 : tie.Need-shared-slice-read-number-4
-shared-slice-read-number-4 c = search needs
+shared-slice-read-be16-4 : tie.Need-shared-slice-read-be16-4
+shared-slice-read-be16-4 c = search needs
 
-number-requires-2 : tie.Need-number-requires-2
-number-requires-2 c κs = search needs
+be16-requires-2 : tie.Need-be16-requires-2
+be16-requires-2 c κs = search needs
 
 from-u16-requires : tie.Need-from-u16-requires
 from-u16-requires c κs = search needs
 
-shared-slice-read-number-5 : tie.Need-shared-slice-read-number-5
-shared-slice-read-number-5 c = search needs
+shared-slice-read-be16-5 : tie.Need-shared-slice-read-be16-5
+shared-slice-read-be16-5 c = search needs
 
-shared-slice-read-number-6 : tie.Need-shared-slice-read-number-6
-shared-slice-read-number-6 c = search needs
+shared-slice-read-be16-6 : tie.Need-shared-slice-read-be16-6
+shared-slice-read-be16-6 c = search needs
 
-number-requires-3 : tie.Need-number-requires-3
-number-requires-3 c κs = search needs
+be16-requires-3 : tie.Need-be16-requires-3
+be16-requires-3 c κs = search needs
 
 returns-2 : tie.Need-returns-2
 unfolding parsedOf verdict
 returns-2 c =
     let s = c .before .before .before .before .before .before .before .before .before .before .before .before .before .before .before .args .body .now in
     let long : 6 ≤ length s = search needs in
-    let same : crcOf (take (length s - 2) s) ≡ of16 (getD s (length s - 1) 0) (getD s (length s - 2) 0) = sym (c .before .before .before .before .before .before .before .before .before .before .before .crc .ensures) ∙ c .before .before .before .before .before .before .before .if2 .taken ∙ c .before .before .before .before .before .before .before .before .number .ensures in
-    rw (c .before .before .before .from-u16 .ensures, c .before .before .before .before .number2 .ensures, c .number3 .ensures, le-ltb _ _ long, eq-eqb _ _ same)
+    let same : crcOf (take (length s - 2) s) ≡ of16 (getD s (length s - 1) 0) (getD s (length s - 2) 0) = sym (c .before .before .before .before .before .before .before .before .before .before .before .crc .ensures) ∙ c .before .before .before .before .before .before .before .if2 .taken ∙ c .before .before .before .before .before .before .before .before .be16 .ensures in
+    rw (c .before .before .before .from-u16 .ensures, c .before .before .before .before .be162 .ensures, c .be163 .ensures, le-ltb _ _ long, eq-eqb _ _ same)
 
 returns-3 : tie.Need-returns-3
 unfolding parsedOf verdict
 returns-3 c =
     let s = c .before .before .before .before .before .before .before .before .args .body .now in
     let long : 6 ≤ length s = search needs in
-    let other : crcOf (take (length s - 2) s) ≡ of16 (getD s (length s - 1) 0) (getD s (length s - 2) 0) → ⊥ = λ h. c .if2 .left (c .before .before .before .before .crc .ensures ∙ h ∙ sym (c .before .number .ensures)) in
+    let other : crcOf (take (length s - 2) s) ≡ of16 (getD s (length s - 1) 0) (getD s (length s - 2) 0) → ⊥ = λ h. c .if2 .left (c .before .before .before .before .crc .ensures ∙ h ∙ sym (c .before .be16 .ensures)) in
     rw (le-ltb _ _ long, ne-eqb _ _ other)
 
 pub parse-frame-spec : {M : Type 1} → statement M
@@ -84,16 +84,16 @@ parse-frame-spec =
     sub-m
     slice-aggregate-crc
     crc-requires
-    sub-number
-    shared-slice-read-number
-    shared-slice-read-number-2
-    number-requires
-    shared-slice-read-number-3
-    shared-slice-read-number-4
-    number-requires-2
+    sub-be16
+    shared-slice-read-be16
+    shared-slice-read-be16-2
+    be16-requires
+    shared-slice-read-be16-3
+    shared-slice-read-be16-4
+    be16-requires-2
     from-u16-requires
-    shared-slice-read-number-5
-    shared-slice-read-number-6
-    number-requires-3
+    shared-slice-read-be16-5
+    shared-slice-read-be16-6
+    be16-requires-3
     returns-2
     returns-3)

@@ -1,0 +1,6 @@
+pub mod Feeds
+pub mod Drains
+pub mod Skips
+pub mod Lent
+pub mod Onwards
+pub mod Goings

@@ -1,0 +1,220 @@
+-- Many bytes at once: where each of them leaves the state as it is, feeding on from behind them is feeding from here; over any check.
+-- Assumes nothing.
+use mathlib.Core.Path.{_≡_, refl, sym, ap, ap₂, _∙_, subst}
+use mathlib.Core.Bool.{Bool, true, false, cond, not, _&&_, _||_}
+use mathlib.Core.List.{List}
+use Prim.Native.Nat.{ℕ, zero, suc, _+_, _-_, _≤_, _<_}
+use native.Mathlib.Nat.{add-zero, add-suc, le-of-lt}
+use native.Mathlib.Numerals.{add-one}
+use native.Mathlib.Omega.{arith}
+use lib.Dec.{eqb, ltb}
+use lib.ListN.{length, getD, set, take, drop, length-set}
+use lib.Seq.{paste}
+use borrow.Author.Tests.{eqb-true, not-true, lt-ltb, ne-eqb}
+use Rattle.runs.specs.Runs.{isOf, lead, All, laid}
+use Rattle.runs.proofs.Laws.{run-placed, run-all, copy-room, copy-placed, copy-all, length-laid, laid-paste}
+use Rattle.runs.specs.declared.Sort.the-variants as sort
+use Rattle.laws.proofs.Cases.{never}
+use Rattle.link_receive.specs.declared.State.{State}
+use Rattle.link_receive.specs.declared.State.the-variants.{Idle, Noise, StartOfFrame, Frame, FrameEscape, Giant, GiantEscape}
+use Rattle.link_receive.specs.declared.Tally.the-variants as tally
+use Rattle.link_receive.specs.declared.Tallies.{Tallies}
+use Rattle.link_receive.specs.declared.Move.{Move}
+use Rattle.link_receive.specs.declared.Move.the-variants.{To, Push, Count}
+use Rattle.link_receive.specs.Step.{limit, outsideOf, turnOf}
+use Rattle.link_feed.specs.Feed.{feedFrom}
+use Rattle.link_feed.specs.declared.Place.{Place}
+use Rattle.link_feed.specs.Advance.{madeOf, Ahead, Skips, Skipped}
+use Rattle.link_receive.proofs.Turns.{tailOf-other}
+use Rattle.link_receive.proofs.Steps.{stepOf-within}
+use Rattle.link_feed.proofs.Feeds.{feedFrom-more}
+
+-- idle bytes leave Idle as it is
+pub turnOf-idle : (len b : ℕ) → isOf sort.Idle b ≡ true → turnOf Idle len b ≡ To Idle
+unfolding isOf turnOf
+turnOf-idle len b e = go (eqb b 0x00) refl e
+  where
+    go : (x : Bool) → eqb b 0x00 ≡ x → (x || eqb b 0xff) ≡ true → outsideOf (Count tally.Noise Noise) b ≡ To Idle
+    go true f g = subst (λ (n : ℕ). outsideOf (Count tally.Noise Noise) n ≡ To Idle) (sym (eqb-true b 0x00 f)) refl
+    go false f g = subst (λ (n : ℕ). outsideOf (Count tally.Noise Noise) n ≡ To Idle) (sym (eqb-true b 0xff g)) refl
+
+-- noise leaves Noise
+pub turnOf-noise : (len b : ℕ) → isOf sort.Noise b ≡ true → turnOf Noise len b ≡ To Noise
+unfolding isOf turnOf
+turnOf-noise len b e = go (eqb b 0x7e) (eqb b 0x00) (eqb b 0xff) e
+  where
+    go : (x y z : Bool) → (not x && not (y || z)) ≡ true → cond x (To StartOfFrame) (cond y (To Idle) (cond z (To Idle) (To Noise))) ≡ To Noise
+    go true y z g = never g
+    go false true z g = never g
+    go false false true g = never g
+    go false false false g = refl
+
+-- what is raw leaves the tail, and is a unit of a frame that has room
+pub turnOf-tail : (len b : ℕ) → isOf sort.Raw b ≡ true → turnOf Giant len b ≡ To Giant
+unfolding isOf turnOf
+turnOf-tail len b e = rw (not-true (eqb b 0x7e) e)
+
+raw-other : (b : ℕ) → (b ≡ 0x7e → ⊥) → isOf sort.Raw b ≡ true
+unfolding isOf
+raw-other b e = rw (ne-eqb b 0x7e e)
+
+pub turnOf-unit : (len b : ℕ) → len < limit → isOf sort.Raw b ≡ true → turnOf Frame len b ≡ Push b
+unfolding isOf turnOf
+turnOf-unit len b h e = rw (not-true (eqb b 0x7e) e, lt-ltb len limit h)
+
+-- 7e begins a pair
+turnOf-pair : (len b : ℕ) → b ≡ 0x7e → turnOf Frame len b ≡ To FrameEscape
+unfolding turnOf
+turnOf-pair len b e = rw e
+
+-- in the tail: 7e begins a pair, and one that neither opens nor closes leads back
+turnOf-tail-pair : (len b : ℕ) → b ≡ 0x7e → turnOf Giant len b ≡ To GiantEscape
+unfolding turnOf
+turnOf-tail-pair len b e = rw e
+
+turnOf-tail-other : (len b : ℕ) → (b ≡ 0x07 → ⊥) → (b ≡ 0x08 → ⊥) → turnOf GiantEscape len b ≡ To Giant
+unfolding turnOf
+turnOf-tail-other len b h g = sym (tailOf-other b h g)
+
+abbrev pub placeOf : ℕ → ℕ → Place
+placeOf len i = record { len = len; at = i }
+
+two : (i : ℕ) → i + 2 ≡ i + 1 + 1
+two i = omega arith
+
+next : (i m : ℕ) → i + suc m ≡ i + m + 1
+next i m = add-suc i m ∙ sym (add-one (i + m))
+
+less : (m : ℕ) → m < suc m
+less m = omega arith
+
+more : (k m : ℕ) → k < m → k < suc m
+more k m h = omega arith
+
+module _ (check : List ℕ → ℕ) (s : List ℕ) where
+  -- bytes that leave the state
+  pub feedFrom-stays :
+      (state : State) (p : ℕ → Bool) (len : ℕ) → ((b : ℕ) → p b ≡ true → turnOf state len b ≡ To state) → len ≤ limit →
+      (body : List ℕ) (t : Tallies) (i m : ℕ) → i + m ≤ length s → All p s i m →
+      feedFrom check (madeOf state body len t) (drop (i + m) s) (i + m) ≡ feedFrom check (madeOf state body len t) (drop i s) i
+  feedFrom-stays state p len turns h body t i zero g a = ap (λ (n : ℕ). feedFrom check (madeOf state body len t) (drop n s) n) (add-zero i)
+  feedFrom-stays state p len turns h body t i (suc m) g a =
+      let r = madeOf state body len t in
+      ap (λ (n : ℕ). feedFrom check r (drop n s) n) (next i m)
+      ∙ feedFrom-more check r r s (i + m) (omega (arith, next i m)) (stepOf-within check r (getD s (i + m) 0) (To state) h (turns (getD s (i + m) 0) (a m (less m))))
+      ∙ feedFrom-stays state p len turns h body t i m (omega (arith, next i m)) (λ k u. a k (more k m u))
+
+  -- what the tail has skipped: nothing yet, as much more as a part of it skips, a run more, a byte more, a pair more
+  pub skipped-none : (i : ℕ) → i ≤ length s → Skipped check s i i
+  skipped-none i h = record { placed = h; further = omega arith; same = λ body len t l. refl }
+
+  module _ (i₀ i : ℕ) (k : Skipped check s i₀ i) where
+    pub skipped-more : (j : ℕ) → Skipped check s i j → Skipped check s i₀ j
+    skipped-more j m =
+        record {
+          placed = m .placed;
+          further = omega (arith, k .further, m .further);
+          same = λ body len t l. m .same body len t l ∙ k .same body len t l;
+        }
+
+    pub skipped-run : (m : ℕ) → i + m ≤ length s → All (isOf sort.Raw) s i m → Skipped check s i₀ (i + m)
+    skipped-run m h a =
+        record {
+          placed = h;
+          further = omega (arith, k .further);
+          same = λ body len t l. feedFrom-stays Giant (isOf sort.Raw) len (turnOf-tail len) l body t i m h a ∙ k .same body len t l;
+        }
+
+    pub skipped-lead : (m : ℕ) → m ≡ lead (isOf sort.Raw) (drop i s) → Skipped check s i₀ (i + m)
+    skipped-lead m e = skipped-run m (run-placed (isOf sort.Raw) s i m (k .placed) e) (run-all (isOf sort.Raw) s i m (k .placed) e)
+
+    pub skipped-byte : i < length s → (getD s i 0 ≡ 0x7e → ⊥) → Skipped check s i₀ (i + 1)
+    skipped-byte h e = skipped-run 1 (omega arith) (λ j u. let z : i + j ≡ i = omega arith in rw z (raw-other (getD s i 0) e))
+
+    pub skipped-pair : Skips s i → Skipped check s i₀ (i + 2)
+    skipped-pair p =
+        record {
+          placed = p .whole;
+          further = omega (arith, k .further);
+          same =
+              λ body len t l.
+              let r = madeOf Giant body len t in
+              let q = madeOf GiantEscape body len t in
+              let w : i + 2 ≤ length s = p .whole in
+              ap (λ (n : ℕ). feedFrom check r (drop n s) n) (two i)
+              ∙ feedFrom-more check q r s (i + 1) (omega arith) (stepOf-within check q (getD s (i + 1) 0) (To Giant) l (turnOf-tail-other len (getD s (i + 1) 0) (p .no-opener) (p .no-closer)))
+              ∙ feedFrom-more check r q s i (omega arith) (stepOf-within check r (getD s i 0) (To GiantEscape) l (turnOf-tail-pair len (getD s i 0) (p .first)))
+              ∙ k .same body len t l;
+        }
+
+  -- raw bytes of an open frame, as far as there is room
+  pub feedFrom-units :
+      (body : List ℕ) (len : ℕ) (t : Tallies) (i m : ℕ) → len + m ≤ limit → i + m ≤ length s → All (isOf sort.Raw) s i m →
+      feedFrom check (madeOf Frame (laid body len s i m) (len + m) t) (drop (i + m) s) (i + m) ≡ feedFrom check (madeOf Frame body len t) (drop i s) i
+  feedFrom-units body len t i zero h g a =
+      ap₂ (λ (l n : ℕ). feedFrom check (madeOf Frame body l t) (drop n s) n) (add-zero len) (add-zero i)
+  feedFrom-units body len t i (suc m) h g a =
+      let r = madeOf Frame (laid body len s i m) (len + m) t in
+      let b = getD s (i + m) 0 in
+      let l : len + m < limit = omega (arith, next len m) in
+      ap₂ (λ (l n : ℕ). feedFrom check (madeOf Frame (laid body len s i (suc m)) l t) (drop n s) n) (next len m) (next i m)
+      ∙ feedFrom-more check r (madeOf Frame (set (laid body len s i m) (len + m) b) (len + m + 1) t) s (i + m) (omega (arith, next i m)) (stepOf-within check r b (Push b) (le-of-lt l) (turnOf-unit (len + m) b l (a m (less m))))
+      ∙ feedFrom-units body len t i m (le-of-lt l) (omega (arith, next i m)) (λ k u. a k (more k m u))
+
+  -- units of an open frame taken so far, from a body, a length and a place: the loop of `units` keeps this
+  pub record Held (body : List ℕ) (len i : ℕ) (next : List ℕ) (p : Place) : Type 0 where
+    pub ahead : Ahead check Frame s body len i next p
+    pub sized : length next ≡ limit
+
+  pub held-none : (body : List ℕ) (len i : ℕ) → len ≤ limit → length body ≡ limit → i ≤ length s → Held body len i body (placeOf len i)
+  held-none body len i h e g = record { ahead = record { placed = g; further = omega arith; within = h; same = λ t. refl }; sized = e }
+
+  module _ (b₀ : List ℕ) (l₀ i₀ : ℕ) (body : List ℕ) (len i : ℕ) (held : Held b₀ l₀ i₀ body (placeOf len i)) where
+    -- a run of raw bytes more
+    pub held-run :
+        (next : List ℕ) (k : ℕ) → k ≡ lead (isOf sort.Raw) (take (length body - len) (drop i s)) → next ≡ paste body len (drop i s) k →
+        Held b₀ l₀ i₀ next (placeOf (len + k) (i + k))
+    held-run next k e f =
+        let room = length body - len in
+        let here : i ≤ length s = held .ahead .placed in
+        let fits : k ≤ room = copy-room (isOf sort.Raw) s i room k here e in
+        let placed : i + k ≤ length s = copy-placed (isOf sort.Raw) s i room k here e in
+        let within : len + k ≤ limit = omega (arith, held .sized, held .ahead .within) in
+        let laid-now : next ≡ laid body len s i k = f ∙ sym (laid-paste body len s i k (omega (arith, held .sized)) placed) in
+        record {
+          ahead =
+              record {
+                placed = placed;
+                further = omega (arith, held .ahead .further);
+                within = within;
+                same =
+                    λ t.
+                    ap (λ (x : List ℕ). feedFrom check (madeOf Frame x (len + k) t) (drop (i + k) s) (i + k)) laid-now
+                    ∙ feedFrom-units body len t i k within placed (copy-all (isOf sort.Raw) s i room k here e)
+                    ∙ held .ahead .same t;
+              };
+          sized = ap length laid-now ∙ length-laid body len s i k ∙ held .sized;
+        }
+
+    -- an escape more
+    pub held-escape :
+        (d : ℕ) → i + 2 ≤ length s → len < limit → getD s i 0 ≡ 0x7e → turnOf FrameEscape len (getD s (i + 1) 0) ≡ Push d →
+        Held b₀ l₀ i₀ (set body len d) (placeOf (len + 1) (i + 2))
+    held-escape d g h e f =
+        record {
+          ahead =
+              record {
+                placed = g;
+                further = omega (arith, held .ahead .further);
+                within = omega arith;
+                same =
+                    λ t.
+                    let r = madeOf Frame body len t in
+                    let q = madeOf FrameEscape body len t in
+                    ap (λ (n : ℕ). feedFrom check (madeOf Frame (set body len d) (len + 1) t) (drop n s) n) (two i)
+                    ∙ feedFrom-more check q (madeOf Frame (set body len d) (len + 1) t) s (i + 1) (omega arith) (stepOf-within check q (getD s (i + 1) 0) (Push d) (le-of-lt h) f)
+                    ∙ feedFrom-more check r q s i (omega arith) (stepOf-within check r (getD s i 0) (To FrameEscape) (le-of-lt h) (turnOf-pair len (getD s i 0) e))
+                    ∙ held .ahead .same t;
+              };
+          sized = simp length-set (held .sized);
+        }

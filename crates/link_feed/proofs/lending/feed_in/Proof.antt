@@ -1,0 +1,75 @@
+-- `link_feed::lending::feed_in` feeds the receiver that it is lent, and writes state and length back before the tallies; 12 leaves all of it. Assumes nothing.
+use mathlib.Core.Path.{_≡_, sym, ap, _∙_}
+use Prim.Native.Nat.{ℕ, _≤_, _<_}
+use lib.ListN.{length, getD}
+use borrow.Author.Needs.{needs}
+use borrow.Author.Tests.{lt-ltb, le-ltb}
+use Rattle.crc.specs.Crc.{crcOf}
+use Rattle.link_receive.specs.declared.State.{State}
+use Rattle.link_feed.specs.declared.Fed.{Fed}
+use Rattle.link_feed.specs.Feed.{feedOf}
+use Rattle.link_receive.specs.Step.{limit}
+use Rattle.link_feed.specs.Lent.{stateAt, stateNumber, receiverAt, placeOf, fedInOf}
+use Rattle.link_feed.specs.Advance.{heldOf, fedOf}
+use Rattle.link_feed.proofs.Lent.{place-set}
+use Rattle.link_feed.proofs.Feeds.{feedOf-over}
+use Rattle.link_feed.proofs.lending.feed_in.Statement.{statement}
+use Rattle.link_feed.proofs.lending.feed_in.Tie as tie
+
+element-copy-out-len : tie.Need-element-copy-out-len
+element-copy-out-len c = search needs
+
+returns : tie.Need-returns
+returns c =
+    let a = c .before .before .before .args in
+    let place = a .place .now in
+    let h : limit < getD place 1 0 = search needs in
+    let e = feedOf-over crcOf (receiverAt place (a .body .now)) (a .s .now) h in
+    (sym (ap fedInOf e), (rw (lt-ltb limit (getD place 1 0) h), sym (ap (λ (x : Fed). x .next .body) e)))
+
+element-copy-out-state-at : tie.Need-element-copy-out-state-at
+element-copy-out-state-at c = search needs
+
+state-at-requires : tie.Need-state-at-requires
+state-at-requires c κs = search needs
+
+fed-requires : tie.Need-fed-requires
+fed-requires c κs = search needs
+
+state-number-requires : tie.Need-state-number-requires
+state-number-requires c κs = search needs
+
+element-write-place : tie.Need-element-write-place
+element-write-place c = search needs
+
+element-write-place-2 : tie.Need-element-write-place-2
+element-write-place-2 c = search needs
+
+returns-2 : tie.Need-returns-2
+returns-2 c =
+    let a = c .before .before .before .before .before .before .before .before .before .args in
+    let place = a .place .now in
+    let f = c .before .fed in
+    let next = f .last .1 .1 .0 in
+    let ten : length next ≡ 10 = search needs in
+    let h : getD place 1 0 ≤ limit = search needs in
+    let e : fedOf (f .result) (f .last .1 .1 .1 .0) next ≡ feedOf crcOf (heldOf (stateAt (getD place 0 0)) (a .body .now) (getD place 1 0) place) (a .s .now) =
+    f .ensures ∙ ap (λ (x : State). feedOf crcOf (heldOf x (a .body .now) (getD place 1 0) place) (a .s .now)) (c .before .before .before .before .state-at .ensures)
+    in (
+      ap fedInOf e,
+      (rw (le-ltb limit (getD place 1 0) h, c .state-number .ensures) (place-set next (stateNumber (f .result .state)) (f .result .len) ten ∙ ap (λ (x : Fed). placeOf (x .next)) e), ap (λ (x : Fed). x .next .body) e),
+    )
+
+pub feed-in-spec : {M : Type 1} → statement M
+feed-in-spec =
+    tie.close
+    (tie.spec
+    element-copy-out-len
+    returns
+    element-copy-out-state-at
+    state-at-requires
+    fed-requires
+    state-number-requires
+    element-write-place
+    element-write-place-2
+    returns-2)

@@ -1,0 +1,5 @@
+pub mod Numbers
+pub mod Feed
+pub mod Drain
+pub mod Advance
+pub mod Lent
