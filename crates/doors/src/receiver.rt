@@ -1,54 +1,13 @@
 // The link receiver's doors. Its state crosses as ten numbers (the state's own, the length, and the eight tallies in the ledger's order)
 // and the 256 bytes of its body, both lent and left as the call leaves them.
 ghost use mathlib.Core.Path.{_≡_};
-ghost use Rattle.link_feed.specs.Lent.{receiverAt, placeOf, placeFed};
+ghost use Rattle.link_receive.specs.Numbered.{receiverAt, placeOf};
+ghost use Rattle.link_feed.specs.Lent.{placeFed};
 ghost use Rattle.doors.specs.Receivers.{told, foundOf, pushedAt, fedAt, resetAt, heardOf};
 use link_receive::Answer;
 use link_receive::Receiver;
-use link_receive::Tallies;
-
-// The receiver that ten numbers and a body say.
-fn receiver_at(place: [u64; 10], body: [u8; 256]) -> Receiver
-    ensures { λ r. ⌜ r ≡ receiverAt place body ⌝ }
-{
-    let state = link_feed::lending::state_at(place[0]);
-    Receiver {
-        state: state,
-        body: body,
-        len: place[1] as usize,
-        tallies: Tallies {
-            openings: place[2],
-            frames: place[3],
-            runts: place[4],
-            checksums: place[5],
-            giants: place[6],
-            escaped: place[7],
-            broken: place[8],
-            noise: place[9],
-        },
-    }
-}
-
-// The ten numbers of a receiver.
-fn place_of(r: Receiver) -> [u64; 10]
-    ensures { λ p. ⌜ p ≡ placeOf r ⌝ }
-{
-    let state = r.state;
-    let t = r.tallies;
-    let n = link_feed::lending::state_number(state);
-    [
-        n,
-        r.len as u64,
-        t.openings,
-        t.frames,
-        t.runts,
-        t.checksums,
-        t.giants,
-        t.escaped,
-        t.broken,
-        t.noise,
-    ]
-}
+use link_receive::numbered::place_of;
+use link_receive::numbered::receiver_at;
 
 // An answer as one number: 0 for nothing, 1 for a frame, or 12.
 fn told_by(a: Answer) -> u64

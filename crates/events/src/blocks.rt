@@ -1,17 +1,12 @@
 // The frames of a block of bytes: each goes through the transport step, and its records, if a log is asked for, to the output.
-ghost use Prim.Native.Nat.{_<_, _≤_};
-ghost use lib.ListN.{length};
 use address::Address;
 use event_record::Recorded;
 use libc::STDOUT_FILENO;
+use link_feed::lending::feed_from;
 use link_receive::Answer;
-use link_receive::Receiver;
 
 // The room that a step's records are given: `answer-fits` of crates/records says that 512 bytes hold them.
 const ROOM: usize = 1024;
-
-// The limit of a receiver's length, which is the second of its ten numbers.
-const LIMIT: u64 = Receiver::MAX_FRAME_SIZE as u64;
 
 // Whether a log is written, and where its records end in the output.
 pub struct Log {
@@ -75,31 +70,6 @@ fn logged(
     Log {
         asked: true,
         at: next,
-    }
-}
-
-// Where a feeding stopped, and what it handed out.
-struct Reached {
-    at: usize,
-    answer: Answer,
-}
-
-// Feeds a block from a place in it on, up to a frame or its end. A receiver that is over its limit passes the block by.
-fn feed_from(place: &mut [u64; 10], body: &mut [u8; 256], s: &[u8], at: usize) -> Reached
-    requires { ⌜ at < length (now s) ⌝ }
-    ensures { λ r. ⌜ (at < r .at) × (r .at ≤ length (now (s .entry))) ⌝ }
-{
-    if LIMIT < place[1] {
-        return Reached {
-            at: s.len(),
-            answer: Answer::Refused,
-        };
-    }
-    let f = link_feed::lending::feed_in(place, body, &s[at..]);
-    let answer = f.answer;
-    Reached {
-        at: at + f.taken,
-        answer: answer,
     }
 }
 

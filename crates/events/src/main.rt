@@ -9,8 +9,7 @@ use counters::print_counters;
 use libc::STDERR_FILENO;
 use libc::STDIN_FILENO;
 use libc::STDOUT_FILENO;
-use link_receive::Receiver;
-use link_receive::Tallies;
+use link_receive::numbered::receiver_at;
 
 mod blocks;
 mod counters;
@@ -38,30 +37,11 @@ fn fail(what: &[u8]) {
     os::fail(what);
 }
 
-// The receiver that ten numbers and a body say.
-fn receiver_at(place: &[u64; 10], body: [u8; 256]) -> Receiver {
-    let state = link_feed::lending::state_at(place[0]);
-    Receiver {
-        state: state,
-        body: body,
-        len: place[1] as usize,
-        tallies: Tallies {
-            openings: place[2],
-            frames: place[3],
-            runts: place[4],
-            checksums: place[5],
-            giants: place[6],
-            escaped: place[7],
-            broken: place[8],
-            noise: place[9],
-        },
-    }
-}
-
 // The ledger of all that was read, and the counters.
 fn print_books(place: &[u64; 10], body: &[u8; 256], counters: &[u64; 33]) {
+    let numbers = *place;
     let units = *body;
-    let Telling::So(l) = books::told(receiver_at(place, units)) else {
+    let Telling::So(l) = books::told(receiver_at(numbers, units)) else {
         return;
     };
     print_ledger(l);

@@ -1,16 +1,11 @@
 // Reads standard input to its end and prints a line for each sound frame, in order: From or To, gateway in four hex digits, type in
 // four hex digits, payload in hex, or - if it has none.
-ghost use Prim.Native.Nat.{_<_, _≤_};
-ghost use lib.ListN.{length};
 use address::Address;
 use libc::STDERR_FILENO;
 use libc::STDIN_FILENO;
 use libc::STDOUT_FILENO;
+use link_feed::lending::feed_from;
 use link_receive::Answer;
-use link_receive::Receiver;
-
-// The limit of a receiver's length, which is the second of its ten numbers.
-const LIMIT: u64 = Receiver::MAX_FRAME_SIZE as u64;
 
 // The longest line: `From`, three blanks, eight digits, 500 more for a payload of 250 bytes, and the line's end.
 const LONGEST: usize = 516;
@@ -115,31 +110,6 @@ fn with_room(out: &[u8], at: usize) -> usize {
     }
     flush(out, at);
     0
-}
-
-// Where a feeding stopped, and what it handed out.
-struct Reached {
-    at: usize,
-    answer: Answer,
-}
-
-// Feeds a block from a place in it on, up to a frame or its end. A receiver that is over its limit passes the block by.
-fn feed_from(place: &mut [u64; 10], body: &mut [u8; 256], s: &[u8], at: usize) -> Reached
-    requires { ⌜ at < length (now s) ⌝ }
-    ensures { λ r. ⌜ (at < r .at) × (r .at ≤ length (now (s .entry))) ⌝ }
-{
-    if LIMIT < place[1] {
-        return Reached {
-            at: s.len(),
-            answer: Answer::Refused,
-        };
-    }
-    let f = link_feed::lending::feed_in(place, body, &s[at..]);
-    let answer = f.answer;
-    Reached {
-        at: at + f.taken,
-        answer: answer,
-    }
 }
 
 // Puts the line of the frame that was handed out, if one was, with the payload in the body. Gives the place after it.

@@ -239,26 +239,3 @@ module _ (check : List ℕ → ℕ) where
   pub hosted : (s : List ℕ) (r : Receiver) → r .len ≤ limit → Hosted check r s (drainOf check r s) (framesOf check r s)
   unfolding Hosts
   hosted s r h = hosted-in (length s) s r h (omega arith)
-
-  -- a run through s under way at i, which in the end gives x: what a host's loop over its bytes keeps
-  pub record Extending (s : List ℕ) (x : Receiver) (r : Receiver) (i : ℕ) : Type 0 where
-    pub placed : i ≤ length s
-    pub within : r .len ≤ limit
-    pub same : drainOf check r (drop i s) ≡ x
-
-  -- one feeding of what is left
-  pub record Extended (s : List ℕ) (x : Receiver) (i : ℕ) (f : Fed) : Type 0 where
-    pub some : 0 < f .taken
-    pub on : Extending s x (f .next) (i + f .taken)
-
-  pub extending-more :
-      (s : List ℕ) (x r : Receiver) (i : ℕ) (f : Fed) → i < length s → Extending s x r i →
-      f ≡ feedOf check r (take (length s - i) (drop i s)) → Extended s x i f
-  extending-more s x r i f h e g =
-      let w : length (drop i s) ≡ length s - i = length-drop i s in
-      let u : take (length s - i) (drop i s) ≡ drop i s = take-all (length s - i) (drop i s) (omega arith) in
-      let j : Goes r (drop i s) f = rw (g, u) (feedOf-goes r (drop i s) (e .within)) in
-      record {
-        some = j .some (omega arith);
-        on = record { placed = omega (arith, j .fits); within = j .within; same = sym (rw (drop-drop (f .taken) i s) at (j .drained)) ∙ e .same };
-      }

@@ -1,21 +1,28 @@
 -- A receiver lent as ten numbers and its body: the tallies among the numbers, and how far feeding it goes. Assumes nothing.
-use mathlib.Core.Path.{_≡_, refl, ap}
+use mathlib.Core.Path.{_≡_, refl, _∙_}
 use mathlib.Core.List.{List, [], _∷_}
 use Prim.Native.Nat.{ℕ, _+_, _-_, _≤_, _<_}
 use native.Mathlib.Omega.{arith}
-use lib.ListN.{length, getD, set, take, drop}
+use lib.ListN.{length, getD, set, take, drop, drop-of-length-le, length-drop}
+use lib.Seq.{take-all}
+use lib.Dec.{ltb}
+use borrow.Author.Tests.{lt-ltb, ltb-true, ltb-false}
+use Rattle.laws.proofs.Cases.{by}
 use Rattle.laws.specs.Wrap.{raised}
-use Rattle.link_feed.specs.declared.FedIn.{FedIn}
-use Rattle.link_receive.specs.declared.Tallies.{Tallies}
+use Rattle.link_feed.specs.declared.Fed.{Fed}
+use Rattle.link_receive.specs.declared.Receiver.{Receiver}
+use Rattle.link_receive.specs.declared.Answer.{Answer}
+use Rattle.link_receive.specs.declared.Answer.the-variants.{Nothing, Frame, Refused}
 use Rattle.link_receive.specs.declared.Tally.{Tally}
 use Rattle.link_receive.specs.declared.Tally.the-variants as tally
 use Rattle.link_receive.specs.Tally.{kindOf, raise, eightOf}
-use Rattle.link_feed.specs.Numbers.{numbersOf, talliesAt, tallyPlace}
+use Rattle.link_receive.specs.Numbered.{talliesAt, tallyPlace, receiverAt, placeOf}
+use Rattle.link_receive.proofs.Numbers.{receiverAt-placeOf}
 use Rattle.link_receive.specs.Step.{limit}
 use Rattle.link_feed.specs.Feed.{feedOf}
-use Rattle.link_feed.specs.Drain.{drainOf}
-use Rattle.link_feed.specs.Lent.{receiverAt, fedInOf}
-use Rattle.link_feed.proofs.Drains.{extending-more}
+use Rattle.link_feed.specs.Lent.{placeFed, startOf, placeAfter, reachedOf}
+use Rattle.link_feed.proofs.Feeds.{feedOf-over}
+use Rattle.link_feed.proofs.Drains.{feedOf-goes}
 
 -- ten numbers, one by one
 pub ten : (l : List ℕ) → length l ≡ 10 → l ≡ getD l 0 0 ∷ getD l 1 0 ∷ getD l 2 0 ∷ getD l 3 0 ∷ getD l 4 0 ∷ getD l 5 0 ∷ getD l 6 0 ∷ getD l 7 0 ∷ getD l 8 0 ∷ getD l 9 0 ∷ []
@@ -44,22 +51,65 @@ talliesAt-raise l tally.Escaped h = rw (ten l h)
 talliesAt-raise l tally.Broken h = rw (ten l h)
 talliesAt-raise l tally.Noise h = rw (ten l h)
 
--- put in and read back
-pub talliesAt-numbersOf : (t : Tallies) → talliesAt (numbersOf t) ≡ t
-unfolding talliesAt
-talliesAt-numbersOf t = refl
-
 -- state and length written before them
 pub place-set : (l : List ℕ) (n m : ℕ) → length l ≡ 10 → set (set l 0 n) 1 m ≡ n ∷ m ∷ eightOf (talliesAt l)
 unfolding talliesAt
 place-set l n m h = rw (ten l h)
 
--- a lent receiver that is within its limit takes some of the bytes from a place on, and none past their end: the programs' loops cite this
-pub lent-takes :
-    (check : List ℕ → ℕ) (place body s : List ℕ) (at : ℕ) (f : FedIn) → at < length s → getD place 1 0 ≤ limit →
-    f ≡ fedInOf (feedOf check (receiverAt place body) (take (length s - at) (drop at s))) → (0 < f .taken) × (at + f .taken ≤ length s)
-lent-takes check place body s at f h w e =
-    let r = receiverAt place body in
-    let x = extending-more check s (drainOf check r (drop at s)) r at (feedOf check r (take (length s - at) (drop at s))) h (record { placed = omega arith; within = w; same = refl }) refl in
-    let t = ap (λ (g : FedIn). g .taken) e in
-    (omega (arith, x .some, t), omega (arith, x .on .placed, t))
+-- an answer that is no refusal leads on by what was taken: `place_after` cites this
+pub placeAfter-taken : (a : Answer) (n start taken : ℕ) → (a ≡ Refused → ⊥) → start + taken ≡ placeAfter a n start taken
+placeAfter-taken Nothing n start taken h = refl
+placeAfter-taken (Frame address t len) n start taken h = refl
+placeAfter-taken Refused n start taken h = absurd (h refl)
+
+-- a slice from where a feeding of it starts
+pub part-from : (s : List ℕ) (at : ℕ) → take (length s - startOf (length s) at) (drop (startOf (length s) at) s) ≡ drop at s
+part-from s at =
+    by (ltb at (length s))
+    (λ e. rw e (take-all (length s - at) (drop at s) (omega (arith, length-drop at s))))
+    (λ e. rw (e, drop-of-length-le s (ltb-false at (length s) e)) (take-all (length s - length s) (drop (length s) s) (omega (arith, length-drop (length s) s)) ∙ drop-of-length-le s {i = length s} (omega arith)))
+
+module _ (check : List ℕ → ℕ) (r : Receiver) where
+  -- a receiver put into ten numbers, fed and read back; 12 leaves them as they were
+  pub fed-back : (s : List ℕ) → receiverAt (placeFed (placeOf r) (feedOf check r s)) (feedOf check r s .next .body) ≡ feedOf check r s .next
+  fed-back s =
+      by (ltb limit (r .len))
+      (λ e. rw (e, feedOf-over check r s (ltb-true limit (r .len) e)) (receiverAt-placeOf r))
+      (λ e. rw e (receiverAt-placeOf (feedOf check r s .next)))
+
+  -- no more is taken than there is
+  pub feedOf-fits : (s : List ℕ) → feedOf check r s .taken ≤ length s
+  feedOf-fits s =
+      by (ltb limit (r .len))
+      (λ e. rw (feedOf-over check r s (ltb-true limit (r .len) e)) (omega arith))
+      (λ e. feedOf-goes check r s (ltb-false limit (r .len) e) .fits)
+
+  module _ (s : List ℕ) (at : ℕ) where
+    abbrev f : Fed
+    f = feedOf check r (drop at s)
+
+    pub starts : startOf (length s) at + f .taken ≤ length s
+    starts =
+        let fits = feedOf-fits (drop at s) in
+        by (ltb at (length s))
+        (λ e. rw e (omega (arith, fits, length-drop at s, ltb-true at (length s) e)))
+        (λ e. rw e (omega (arith, fits, length-drop at s, ltb-false at (length s) e)))
+
+    placed : (a : Answer) → placeAfter a (length s) (startOf (length s) at) (f .taken) ≤ length s
+    placed Nothing = starts
+    placed (Frame address t n) = starts
+    placed Refused = omega arith
+
+    further : (a : Answer) → 0 < f .taken → at < length s → at < placeAfter a (length s) (startOf (length s) at) (f .taken)
+    further Nothing some h = rw (lt-ltb at (length s) h) (omega arith)
+    further (Frame address t n) some h = rw (lt-ltb at (length s) h) (omega arith)
+    further Refused some h = h
+
+    -- a feeding from a place on reaches one that is further on, and none past the slice's end: the programs' loops end by this
+    pub reached : (at < length s → at < reachedOf s at f .at) × (reachedOf s at f .at ≤ length s)
+    reached = (
+      (λ h. by (ltb limit (r .len))
+          (λ e. rw (feedOf-over check r (drop at s) (ltb-true limit (r .len) e)) h)
+          (λ e. further (f .answer) (feedOf-goes check r (drop at s) (ltb-false limit (r .len) e) .some (omega (arith, length-drop at s))) h)),
+      placed (f .answer),
+    )

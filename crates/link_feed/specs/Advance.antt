@@ -17,7 +17,7 @@ use Rattle.link_feed.specs.declared.Stood.{Stood}
 use Rattle.link_receive.specs.declared.Stepped.{Stepped}
 use Rattle.link_feed.specs.declared.Advanced.{Advanced}
 use Rattle.link_feed.specs.declared.Fed.{Fed}
-use Rattle.link_feed.specs.Numbers.{talliesAt}
+use Rattle.link_receive.specs.Numbered.{talliesAt}
 use Rattle.link_receive.specs.Step.{limit}
 use Rattle.link_feed.specs.Feed.{stopped, feedFrom}
 use Rattle.link_feed.specs.Drain.{drainOf}

@@ -1,4 +1,3 @@
-pub mod Numbers
 pub mod Feed
 pub mod Drain
 pub mod Advance

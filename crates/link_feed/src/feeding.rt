@@ -5,7 +5,7 @@ ghost use Prim.Native.Nat.{_<_, _≤_};
 ghost use lib.ListN.{length, take};
 ghost use Rattle.crc.specs.Crc.{crcOf};
 ghost use Rattle.link_receive.specs.Tally.{kindOf, raise};
-ghost use Rattle.link_feed.specs.Numbers.{tallyPlace, talliesAt};
+ghost use Rattle.link_receive.specs.Numbered.{tallyPlace, talliesAt};
 ghost use Rattle.link_receive.specs.Step.{limit, parsedOf, closedOf, stepOf};
 ghost use Rattle.link_feed.specs.Feed.{feedOf};
 ghost use Rattle.link_feed.specs.Advance.{heldOf, steppedOf, stoodOf, fedOf, Ahead, Stands, Paired, Onward, stopsAt, wentOf};

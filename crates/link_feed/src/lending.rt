@@ -1,43 +1,18 @@
 // A receiver that is lent: ten numbers (the state's own, the length, and the eight tallies in the ledger's order) and the 256 bytes of its body.
 ghost use mathlib.Core.Path.{_≡_};
+ghost use Prim.Native.Nat.{_+_, _≤_, _<_};
+ghost use lib.ListN.{length, drop};
 ghost use Rattle.crc.specs.Crc.{crcOf};
+ghost use Rattle.link_receive.specs.Numbered.{receiverAt};
 ghost use Rattle.link_feed.specs.Feed.{feedOf};
-ghost use Rattle.link_feed.specs.Lent.{stateAt, stateNumber, receiverAt, placeFed, fedInOf};
+ghost use Rattle.link_feed.specs.Lent.{placeFed, fedInOf, startOf, placeAfter, reachedOf};
 use crate::FedIn;
+use crate::Reached;
 use crate::feeding::fed;
 use link_receive::Answer;
 use link_receive::Receiver;
-use link_receive::State;
-
-// The state of a number; any number above 5 stands for the last.
-pub fn state_at(n: u64) -> State
-    ensures { λ r. ⌜ r ≡ stateAt n ⌝ }
-{
-    match n {
-        0 => State::Idle,
-        1 => State::Noise,
-        2 => State::StartOfFrame,
-        3 => State::Frame,
-        4 => State::FrameEscape,
-        5 => State::Giant,
-        _ => State::GiantEscape,
-    }
-}
-
-// The number of a state.
-pub fn state_number(s: State) -> u64
-    ensures { λ r. ⌜ r ≡ stateNumber s ⌝ }
-{
-    match s {
-        State::Idle => 0,
-        State::Noise => 1,
-        State::StartOfFrame => 2,
-        State::Frame => 3,
-        State::FrameEscape => 4,
-        State::Giant => 5,
-        State::GiantEscape => 6,
-    }
-}
+use link_receive::numbered::state_at;
+use link_receive::numbered::state_number;
 
 // `feed` over a receiver that is lent as ten numbers (state, length, tallies) and its body: for a loop that keeps them.
 // Refused by 12, with nothing changed and nothing taken, if the length is over the limit.
@@ -62,5 +37,41 @@ pub fn feed_in(place: &mut [u64; 10], body: &mut [u8; 256], s: &[u8]) -> FedIn
     FedIn {
         answer: answer,
         taken: a.at,
+    }
+}
+
+// Where a feeding from a place on starts: at the slice's end at the latest.
+fn start_of(n: usize, at: usize) -> usize
+    ensures { λ r. ⌜ (r ≡ startOf n at) × (r ≤ n) ⌝ }
+{
+    if at < n { at } else { n }
+}
+
+// The place that it reaches: the slice's end where 12 refuses it.
+fn place_after(answer: Answer, n: usize, start: usize, taken: usize) -> usize
+    requires { ⌜ start + taken ≤ n ⌝ }
+    ensures { λ r. ⌜ r ≡ placeAfter answer n start taken ⌝ }
+{
+    match answer {
+        Answer::Refused => n,
+        _ => start + taken,
+    }
+}
+
+// `feed_in` from a place of a slice on, with the place that it reaches. A loop over the slice ends, whatever receiver is lent to it.
+pub fn feed_from(place: &mut [u64; 10], body: &mut [u8; 256], s: &[u8], at: usize) -> Reached
+    ensures answer { λ r. ⌜ r ≡ reachedOf (now (s .entry)) at (feedOf crcOf (receiverAt (now (place .entry)) (now (body .entry))) (drop at (now (s .entry)))) ⌝ }
+    ensures numbers { λ _. ⌜ now (place .exit) ≡ placeFed (now (place .entry)) (feedOf crcOf (receiverAt (now (place .entry)) (now (body .entry))) (drop at (now (s .entry)))) ⌝ }
+    ensures units { λ _. ⌜ now (body .exit) ≡ feedOf crcOf (receiverAt (now (place .entry)) (now (body .entry))) (drop at (now (s .entry))) .next .body ⌝ }
+    ensures onward { λ r. ⌜ (at < length (now (s .entry)) → at < r .at) × (r .at ≤ length (now (s .entry))) ⌝ }
+{
+    let n = s.len();
+    let start = start_of(n, at);
+    let f = feed_in(place, body, &s[start..]);
+    let answer = f.answer;
+    let reached = place_after(answer, n, start, f.taken);
+    Reached {
+        answer: answer,
+        at: reached,
     }
 }

@@ -4,17 +4,17 @@ ghost use Rattle.crc.specs.Crc.{crcOf};
 ghost use Rattle.link_feed.specs.Feed.{feedOf};
 ghost use Rattle.link_feed.specs.Drain.{extendOf};
 use feeding::advance;
-use feeding::fed;
+use lending::feed_in;
 use link_receive::Answer;
 use link_receive::Receiver;
 use link_receive::State;
 use link_receive::Stepped;
-use numbers::numbers_of;
-use numbers::tallies_of;
+use link_receive::numbered::place_of;
+use link_receive::numbered::receiver_at;
+use link_receive::numbered::state_number;
 
 mod feeding;
 pub mod lending;
-mod numbers;
 mod tails;
 
 // A receiver handed back, what it hands out, and the number of bytes taken.
@@ -28,6 +28,12 @@ pub struct Fed {
 pub struct FedIn {
     pub answer: Answer,
     pub taken: usize,
+}
+
+// What a feeding from a place of a slice on hands out, and the place that it reaches.
+pub struct Reached {
+    pub answer: Answer,
+    pub at: usize,
 }
 
 // How many units are held, and how many bytes of a slice were taken.
@@ -63,22 +69,15 @@ struct Advanced {
 pub fn feed(r: Receiver, s: &[u8]) -> Fed
     ensures { λ f. ⌜ f ≡ feedOf crcOf r (now (s .entry)) ⌝ }
 {
-    let state = r.state;
-    let mut tallies = numbers_of(r.tallies);
     let mut body = r.body;
-    let a = fed(state, r.len, &mut tallies, &mut body, s);
-    let next = a.state;
-    let answer = a.answer;
-    let counts = tallies_of(tallies);
+    let mut place = place_of(r);
+    let f = feed_in(&mut place, &mut body, s);
+    let answer = f.answer;
+    let next = receiver_at(place, body);
     Fed {
-        next: Receiver {
-            state: next,
-            body: body,
-            len: a.len,
-            tallies: counts,
-        },
+        next: next,
         answer: answer,
-        taken: a.at,
+        taken: f.taken,
     }
 }
 
@@ -94,18 +93,15 @@ pub fn extend_from_slice(r: Receiver, s: &[u8]) -> Stepped
         };
     }
     let state = r.state;
-    let mut tallies = numbers_of(r.tallies);
     let mut body = r.body;
-    let a = advance(state, len, &mut tallies, &mut body, s, 0, false);
-    let next = a.state;
-    let counts = tallies_of(tallies);
+    let mut place = place_of(r);
+    let a = advance(state, len, &mut place, &mut body, s, 0, false);
+    let last = a.state;
+    place[0] = state_number(last);
+    place[1] = a.len as u64;
+    let next = receiver_at(place, body);
     Stepped {
-        next: Receiver {
-            state: next,
-            body: body,
-            len: a.len,
-            tallies: counts,
-        },
+        next: next,
         answer: Answer::Nothing,
     }
 }

@@ -1,3 +1,4 @@
 pub mod Tally
 pub mod Frames
 pub mod Step
+pub mod Numbered

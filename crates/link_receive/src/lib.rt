@@ -15,6 +15,7 @@ use moves::turn;
 
 mod by_value;
 pub mod moves;
+pub mod numbered;
 
 // Where the receiver stands in the stream.
 pub enum State {

@@ -50,12 +50,18 @@ use Rattle.link_receive.proofs.moves.turn.Kinds as link-receive·moves·turn·k
 use Rattle.link_receive.proofs.moves.turn.Reads as link-receive·moves·turn·reads
 use Rattle.link_receive.proofs.moves.parse_frame.Kinds as link-receive·moves·parse-frame·kinds
 use Rattle.link_receive.proofs.moves.parse_frame.Reads as link-receive·moves·parse-frame·reads
-use Rattle.link_feed.proofs.lending.state_at.Kinds as link-feed·lending·state-at·kinds
-use Rattle.link_feed.proofs.lending.state_at.Reads as link-feed·lending·state-at·reads
-use Rattle.link_feed.proofs.lending.state_number.Kinds as link-feed·lending·state-number·kinds
-use Rattle.link_feed.proofs.lending.state_number.Reads as link-feed·lending·state-number·reads
+use Rattle.link_receive.proofs.numbered.state_at.Kinds as link-receive·numbered·state-at·kinds
+use Rattle.link_receive.proofs.numbered.state_at.Reads as link-receive·numbered·state-at·reads
+use Rattle.link_receive.proofs.numbered.state_number.Kinds as link-receive·numbered·state-number·kinds
+use Rattle.link_receive.proofs.numbered.state_number.Reads as link-receive·numbered·state-number·reads
+use Rattle.link_receive.proofs.numbered.receiver_at.Kinds as link-receive·numbered·receiver-at·kinds
+use Rattle.link_receive.proofs.numbered.receiver_at.Reads as link-receive·numbered·receiver-at·reads
+use Rattle.link_receive.proofs.numbered.place_of.Kinds as link-receive·numbered·place-of·kinds
+use Rattle.link_receive.proofs.numbered.place_of.Reads as link-receive·numbered·place-of·reads
 use Rattle.link_feed.proofs.lending.feed_in.Kinds as link-feed·lending·feed-in·kinds
 use Rattle.link_feed.proofs.lending.feed_in.Reads as link-feed·lending·feed-in·reads
+use Rattle.link_feed.proofs.lending.feed_from.Kinds as link-feed·lending·feed-from·kinds
+use Rattle.link_feed.proofs.lending.feed_from.Reads as link-feed·lending·feed-from·reads
 use Rattle.link_receive.proofs.Receiver.new.Kinds as link-receive·Receiver·new·kinds
 use Rattle.link_receive.proofs.Receiver.new.Reads as link-receive·Receiver·new·reads
 use Rattle.link_receive.proofs.Receiver.push_u8.Kinds as link-receive·Receiver·push-u8·kinds
@@ -254,14 +260,23 @@ link-receive·moves·turn κs a x y u v p q = (p ∙ sym q, refl)
 pub link-receive·moves·parse-frame : Determined 1 link-receive·moves·parse-frame·kinds.ps link-receive·moves·parse-frame·kinds.r link-receive·moves·parse-frame·reads.Learnt
 link-receive·moves·parse-frame κs a x y u v p q = (p ∙ sym q, refl)
 
-pub link-feed·lending·state-at : Determined 0 link-feed·lending·state-at·kinds.ps link-feed·lending·state-at·kinds.r link-feed·lending·state-at·reads.Learnt
-link-feed·lending·state-at κs a x y u v p q = (p ∙ sym q, refl)
+pub link-receive·numbered·state-at : Determined 0 link-receive·numbered·state-at·kinds.ps link-receive·numbered·state-at·kinds.r link-receive·numbered·state-at·reads.Learnt
+link-receive·numbered·state-at κs a x y u v p q = (p ∙ sym q, refl)
 
-pub link-feed·lending·state-number : Determined 0 link-feed·lending·state-number·kinds.ps link-feed·lending·state-number·kinds.r link-feed·lending·state-number·reads.Learnt
-link-feed·lending·state-number κs a x y u v p q = (p ∙ sym q, refl)
+pub link-receive·numbered·state-number : Determined 0 link-receive·numbered·state-number·kinds.ps link-receive·numbered·state-number·kinds.r link-receive·numbered·state-number·reads.Learnt
+link-receive·numbered·state-number κs a x y u v p q = (p ∙ sym q, refl)
+
+pub link-receive·numbered·receiver-at : Determined 0 link-receive·numbered·receiver-at·kinds.ps link-receive·numbered·receiver-at·kinds.r link-receive·numbered·receiver-at·reads.Learnt
+link-receive·numbered·receiver-at κs a x y u v p q = (p ∙ sym q, refl)
+
+pub link-receive·numbered·place-of : Determined 0 link-receive·numbered·place-of·kinds.ps link-receive·numbered·place-of·kinds.r link-receive·numbered·place-of·reads.Learnt
+link-receive·numbered·place-of κs a x y u v p q = (p ∙ sym q, refl)
 
 pub link-feed·lending·feed-in : Determined 3 link-feed·lending·feed-in·kinds.ps link-feed·lending·feed-in·kinds.r link-feed·lending·feed-in·reads.Learnt
 link-feed·lending·feed-in κs a x y u v p q = (p .0 ∙ sym (q .0), cc)
+
+pub link-feed·lending·feed-from : Determined 3 link-feed·lending·feed-from·kinds.ps link-feed·lending·feed-from·kinds.r link-feed·lending·feed-from·reads.Learnt
+link-feed·lending·feed-from κs a x y u v p q = (p .0 ∙ sym (q .0), cc)
 
 pub link-receive·Receiver·new : Determined 0 link-receive·Receiver·new·kinds.ps link-receive·Receiver·new·kinds.r link-receive·Receiver·new·reads.Learnt
 link-receive·Receiver·new κs a x y u v p q = (p ∙ sym q, refl)

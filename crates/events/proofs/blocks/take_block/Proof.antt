@@ -25,7 +25,9 @@ take-answer-requires : tie.Need-take-answer-requires Inv-loop μ-loop
 take-answer-requires c κs = search needs
 
 loop-less : tie.Need-loop-less Inv-loop μ-loop
-loop-less c = search needs
+loop-less c =
+    let on = c .before .before .before .before .before .before .before .before .before .before .before .before .before .before .feed-from .ensures .1 .1 .1 .0 (search needs) in
+    search needs
 
 loop-again : tie.Need-loop-again Inv-loop μ-loop
 loop-again c = search needs

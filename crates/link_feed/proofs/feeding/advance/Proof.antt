@@ -5,7 +5,7 @@ use native.Mathlib.Omega.{arith}
 use lib.ListN.{length}
 use borrow.Author.Needs.{needs}
 use Rattle.crc.specs.Crc.{crcOf}
-use Rattle.link_feed.specs.Numbers.{talliesAt}
+use Rattle.link_receive.specs.Numbered.{talliesAt}
 use Rattle.link_feed.specs.Advance.{heldOf, wentOf}
 use Rattle.link_feed.proofs.Goings.{Going, going-ahead, going-onward, going-stops, going-ends}
 use Rattle.link_feed.proofs.feeding.advance.Statement.{statement}

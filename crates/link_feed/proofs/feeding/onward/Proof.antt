@@ -4,7 +4,7 @@ use borrow.Author.Needs.{needs}
 use native.Mathlib.Omega.{arith}
 use Rattle.crc.specs.Crc.{crcOf}
 use Rattle.link_receive.specs.declared.State.the-variants.{Idle, FrameEscape}
-use Rattle.link_feed.specs.Numbers.{talliesAt}
+use Rattle.link_receive.specs.Numbered.{talliesAt}
 use Rattle.link_feed.specs.Advance.{heldOf}
 use Rattle.link_feed.proofs.Onwards.{onward-opener, onward-closer, onward-one}
 use Rattle.link_feed.proofs.feeding.onward.Statement.{statement}

@@ -9,7 +9,8 @@ use Rattle.link_receive.specs.declared.State.{State}
 use Rattle.link_feed.specs.declared.Fed.{Fed}
 use Rattle.link_feed.specs.Feed.{feedOf}
 use Rattle.link_receive.specs.Step.{limit}
-use Rattle.link_feed.specs.Lent.{stateAt, stateNumber, receiverAt, placeOf, fedInOf}
+use Rattle.link_receive.specs.Numbered.{stateAt, stateNumber, receiverAt, placeOf}
+use Rattle.link_feed.specs.Lent.{fedInOf}
 use Rattle.link_feed.specs.Advance.{heldOf, fedOf}
 use Rattle.link_feed.proofs.Lent.{place-set}
 use Rattle.link_feed.proofs.Feeds.{feedOf-over}

@@ -1,9 +1,9 @@
--- `link_feed::lending::state_at` gives the states by their numbers. Assumes nothing.
+-- `link_receive::numbered::state_at` gives the states by their numbers. Assumes nothing.
 use mathlib.Core.Path.{_≡_}
 use borrow.Author.Tests.{ne-eqb}
-use Rattle.link_feed.specs.Lent.{stateAt}
-use Rattle.link_feed.proofs.lending.state_at.Statement.{statement}
-use Rattle.link_feed.proofs.lending.state_at.Tie as tie
+use Rattle.link_receive.specs.Numbered.{stateAt}
+use Rattle.link_receive.proofs.numbered.state_at.Statement.{statement}
+use Rattle.link_receive.proofs.numbered.state_at.Tie as tie
 
 returns : tie.Need-returns
 unfolding stateAt

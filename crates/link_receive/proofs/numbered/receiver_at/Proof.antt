@@ -1,9 +1,9 @@
--- `doors::receiver::receiver_at` puts each number in its field. Assumes nothing.
+-- `link_receive::numbered::receiver_at` puts each number in its field. Assumes nothing.
 use mathlib.Core.Path.{_≡_}
 use borrow.Author.Needs.{needs}
-use Rattle.link_feed.specs.Numbers.{talliesAt}
-use Rattle.doors.proofs.receiver.receiver_at.Statement.{statement}
-use Rattle.doors.proofs.receiver.receiver_at.Tie as tie
+use Rattle.link_receive.specs.Numbered.{talliesAt}
+use Rattle.link_receive.proofs.numbered.receiver_at.Statement.{statement}
+use Rattle.link_receive.proofs.numbered.receiver_at.Tie as tie
 
 array-read-state-at : tie.Need-array-read-state-at
 array-read-state-at c = search needs
