@@ -7,9 +7,10 @@ use native.Mathlib.Omega.{arith}
 use lib.ListN.{length, length-append}
 use borrow.Author.Tests.{le-leb}
 use Rattle.laws.proofs.Lay.{paste-append}
-use Rattle.event_record.specs.Record.{written, laidAt, soundBody}
+use Rattle.sound_record.specs.Record.{written, soundBody}
+use Rattle.event_record.specs.Layout.{laidAt}
 use Rattle.event_record.specs.Event.{bodyOf, command}
-use Rattle.event_record.proofs.Soundness.{soundBody-8, soundBody-8-wide, soundBody-8-long}
+use Rattle.sound_record.proofs.Soundness.{soundBody-8, soundBody-8-wide, soundBody-8-long}
 
 module _ (t u : ℕ) (q p : List ℕ) where
   abbrev body : List ℕ

@@ -9,9 +9,9 @@ use borrow.Author.Tests.{eq-eqb}
 use Rattle.utf8.specs.Utf8.{Text}
 use Rattle.utf8.proofs.Laws.{isText-text}
 use Rattle.network.specs.Split.{packetSize, Whole}
-use Rattle.event_record.specs.Record.{written, soundAt}
+use Rattle.sound_record.specs.Record.{written, soundAt}
 use Rattle.event_record.specs.Event.{Event, enumeration-started, identity, version-text, enumeration-ended, slot-captured, slot-counter, packet, command, kindOf, bodyOf, recordOf}
-use Rattle.event_record.proofs.Soundness.{soundBody-1, soundBody-2, soundBody-3, soundBody-4, soundBody-5, soundBody-6, soundBody-7}
+use Rattle.sound_record.proofs.Soundness.{soundBody-1, soundBody-2, soundBody-3, soundBody-4, soundBody-5, soundBody-6, soundBody-7}
 use Rattle.event_record.proofs.Written.{soundAt-framed}
 use Rattle.event_record.proofs.Commands.{command-sound}
 

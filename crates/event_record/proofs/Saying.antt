@@ -11,9 +11,10 @@ use lib.Seq.{length-take-le, split-at, getD-drop}
 use lib.Dec.{leb, eqb}
 use borrow.Author.Tests.{eqb-true, leb-true}
 use Rattle.laws.specs.Bytes.{Bytes, be16, be16At}
-use Rattle.event_record.specs.Record.{bodyStart, framed, isCounter, isBody, soundBody, soundAt}
+use Rattle.sound_record.specs.Record.{bodyStart, isCounter, isBody, soundBody, soundAt}
+use Rattle.event_record.specs.Layout.{framed}
 use Rattle.event_record.specs.Event.{Event, enumeration-started, identity, version-text, enumeration-ended, slot-captured, slot-counter, packet, command, kindOf, bodyOf, recordOf, eventOf, gatewayIn, saysOf}
-use Rattle.event_record.proofs.Soundness.{Parts, both, sound-parts, soundBody-1, soundBody-4, soundBody-5, soundBody-8, soundBody-other}
+use Rattle.sound_record.proofs.Soundness.{Parts, both, sound-parts, soundBody-1, soundBody-4, soundBody-5, soundBody-8, soundBody-other}
 use Rattle.event_record.proofs.Written.{sound-small}
 
 -- an event that a body of a kind says, and that has just that body

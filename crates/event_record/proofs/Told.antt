@@ -13,13 +13,14 @@ use lib.Dec.{ltb}
 use borrow.Author.Tests.{ltb-false}
 use Rattle.laws.specs.Bytes.{be16, be16At, laidOver}
 use Rattle.laws.specs.Handed.{Handed, refused, value}
-use Rattle.event_record.specs.Record.{written, framed, soundAt, standsAt}
+use Rattle.sound_record.specs.Record.{written, soundAt, standsAt}
+use Rattle.event_record.specs.Layout.{framed}
 use Rattle.event_record.specs.Event.{Event, enumeration-started, identity, version-text, enumeration-ended, slot-captured, slot-counter, packet, command, kindOf, bodyOf, recordOf, eventOf, gatewayIn, saysOf}
 use Rattle.event_record.specs.Handed.{handed, framedHanded, recordHanded, recordBytes, laidIf}
-use Rattle.event_record.specs.declared.Stands.the-variants.{Record, Nothing}
+use Rattle.sound_record.specs.declared.Stands.the-variants.{Record, Nothing}
 use Rattle.event_record.specs.declared.Recorded.{Recorded}
 use Rattle.event_record.specs.declared.Recorded.the-variants.{Written, InvalidGateway, Unsound, NoRoom}
-use Rattle.event_record.proofs.Places.{stands-within}
+use Rattle.sound_record.proofs.Places.{stands-within}
 
 -- 01, "Event record": enumeration ended at 0x1201: 00 04 01 04 12 01
 pub ended-1201 : recordOf written 0x1201 enumeration-ended ≡ 0x00 ∷ 0x04 ∷ 0x01 ∷ 0x04 ∷ 0x12 ∷ 0x01 ∷ []

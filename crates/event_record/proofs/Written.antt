@@ -11,10 +11,11 @@ use lib.Dec.{leb, eqb}
 use borrow.Author.Tests.{leb-true, lt-ltb, le-ltb}
 use Rattle.laws.specs.Bytes.{be16, be16At, laidOver}
 use Rattle.laws.proofs.Lay.{laidOver-paste}
-use Rattle.event_record.specs.Record.{written, following, framed, headOf, laidAt, bodyLimit, isBody, soundBody, soundAt}
+use Rattle.sound_record.specs.Record.{written, bodyLimit, isBody, soundBody, soundAt}
+use Rattle.event_record.specs.Layout.{following, framed, headOf, laidAt}
 use Rattle.laws.specs.Handed.{Handed, refused, value}
 use Rattle.event_record.specs.Handed.{framedHanded, framedBytes, laidIf}
-use Rattle.event_record.proofs.Soundness.{both, sound-body, not-sound}
+use Rattle.sound_record.proofs.Soundness.{both, sound-body, not-sound}
 
 -- no sound body is longer than kind 8 allows
 pub sound-small : (v kind : ℕ) (b : List ℕ) → soundBody v kind b ≡ true → length b ≤ 1025

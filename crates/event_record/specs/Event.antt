@@ -6,7 +6,8 @@ use mathlib.Core.List.{List, [], _∷_, _++_}
 use lib.ListN.{length, getD, take, drop}
 use lib.Dec.{eqb}
 use Rattle.laws.specs.Bytes.{be16, be16At}
-use Rattle.event_record.specs.Record.{framed, bodyStart, requestWidth, requestLength}
+use Rattle.sound_record.specs.Record.{bodyStart, requestWidth, requestLength}
+use Rattle.event_record.specs.Layout.{framed}
 
 -- 01, "Event record": kinds: 1 enumeration started; 2 identity, long address; 3 version text; 4 enumeration ended; 5 slot captured;
 -- 6 slot counter (2) and repeat mark (0 or 1); 7 packet as it stood in the area; 8 command: request type, request payload length (1),

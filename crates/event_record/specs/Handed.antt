@@ -7,7 +7,8 @@ use lib.Dec.{ltb}
 use Rattle.laws.specs.Bytes.{laidOver}
 use Rattle.laws.specs.Handed.{Handed, refused, value}
 use Rattle.address.specs.Address.{idLimit}
-use Rattle.event_record.specs.Record.{written, framed, soundAt}
+use Rattle.sound_record.specs.Record.{written, soundAt}
+use Rattle.event_record.specs.Layout.{framed}
 use Rattle.event_record.specs.Event.{Event, kindOf, bodyOf}
 use Rattle.event_record.specs.declared.Recorded.{Recorded}
 use Rattle.event_record.specs.declared.Recorded.the-variants.{Written, InvalidGateway, Unsound, NoRoom}

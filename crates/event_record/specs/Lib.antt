@@ -1,3 +1,3 @@
-pub mod Record
+pub mod Layout
 pub mod Event
 pub mod Handed

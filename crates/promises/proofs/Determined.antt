@@ -160,10 +160,12 @@ use Rattle.transport_receiver.proofs.Receiver.reset_counters.Kinds as transport
 use Rattle.transport_receiver.proofs.Receiver.reset_counters.Reads as transport-receiver·Receiver·reset-counters·reads
 use Rattle.transport_receiver.proofs.step_in.Kinds as transport-receiver·step-in·kinds
 use Rattle.transport_receiver.proofs.step_in.Reads as transport-receiver·step-in·reads
-use Rattle.event_record.proofs.sound.Kinds as event-record·sound·kinds
-use Rattle.event_record.proofs.sound.Reads as event-record·sound·reads
-use Rattle.event_record.proofs.sound_at.Kinds as event-record·sound-at·kinds
-use Rattle.event_record.proofs.sound_at.Reads as event-record·sound-at·reads
+use Rattle.sound_record.proofs.sound_body.Kinds as sound-record·sound-body·kinds
+use Rattle.sound_record.proofs.sound_body.Reads as sound-record·sound-body·reads
+use Rattle.sound_record.proofs.sound.Kinds as sound-record·sound·kinds
+use Rattle.sound_record.proofs.sound.Reads as sound-record·sound·reads
+use Rattle.sound_record.proofs.sound_at.Kinds as sound-record·sound-at·kinds
+use Rattle.sound_record.proofs.sound_at.Reads as sound-record·sound-at·reads
 use Rattle.event_record.proofs.enumeration_started.Kinds as event-record·enumeration-started·kinds
 use Rattle.event_record.proofs.enumeration_started.Reads as event-record·enumeration-started·reads
 use Rattle.event_record.proofs.identity.Kinds as event-record·identity·kinds
@@ -425,11 +427,14 @@ transport-receiver·Receiver·reset-counters κs a x y u v p q = (p ∙ sym q, r
 pub transport-receiver·step-in : Determined 10 transport-receiver·step-in·kinds.ps transport-receiver·step-in·kinds.r transport-receiver·step-in·reads.Learnt
 transport-receiver·step-in κs a x y u v p q = (ap (λ (s : Stepped). s .answer) (p ∙ sym q), ap (λ (s : Stepped). (at-last (a .0) (s .receiver .nkeys), (at-last (a .1 .0) (s .receiver .numbers), (at-last (a .1 .1 .0) (s .receiver .skeys), (at-last (a .1 .1 .1 .0) (s .receiver .sequences), (at-last (a .1 .1 .1 .1 .0) (s .receiver .ckeys), (at-last (a .1 .1 .1 .1 .1 .0) (s .receiver .ctypes), (at-last (a .1 .1 .1 .1 .1 .1 .0) (s .receiver .clengths), (at-last (a .1 .1 .1 .1 .1 .1 .1 .0) (s .receiver .cpayloads), (at-last (a .1 .1 .1 .1 .1 .1 .1 .1 .0) (s .receiver .counters), (a .1 .1 .1 .1 .1 .1 .1 .1 .1 .0, (a .1 .1 .1 .1 .1 .1 .1 .1 .1 .1 .0, (a .1 .1 .1 .1 .1 .1 .1 .1 .1 .1 .1 .0, tt))))))))))))) (p ∙ sym q))
 
-pub event-record·sound : Determined 1 event-record·sound·kinds.ps event-record·sound·kinds.r event-record·sound·reads.Learnt
-event-record·sound κs a x y u v p q = (p ∙ sym q, refl)
+pub sound-record·sound-body : Determined 1 sound-record·sound-body·kinds.ps sound-record·sound-body·kinds.r sound-record·sound-body·reads.Learnt
+sound-record·sound-body κs a x y u v p q = (p ∙ sym q, refl)
 
-pub event-record·sound-at : Determined 1 event-record·sound-at·kinds.ps event-record·sound-at·kinds.r event-record·sound-at·reads.Learnt
-event-record·sound-at κs a x y u v p q = (p ∙ sym q, refl)
+pub sound-record·sound : Determined 1 sound-record·sound·kinds.ps sound-record·sound·kinds.r sound-record·sound·reads.Learnt
+sound-record·sound κs a x y u v p q = (p ∙ sym q, refl)
+
+pub sound-record·sound-at : Determined 1 sound-record·sound-at·kinds.ps sound-record·sound-at·kinds.r sound-record·sound-at·reads.Learnt
+sound-record·sound-at κs a x y u v p q = (p ∙ sym q, refl)
 
 pub event-record·enumeration-started : Determined 1 event-record·enumeration-started·kinds.ps event-record·enumeration-started·kinds.r event-record·enumeration-started·reads.Learnt
 event-record·enumeration-started κs a x y u v p q = (handed-apart x y (p .0 ∙ sym (q .0)), cc)

@@ -11,7 +11,7 @@ use borrow.Author.Tests.{ltb-true, le-ltb, lt-ltb}
 use Rattle.laws.specs.Bytes.{Bytes}
 use Rattle.laws.specs.Handed.{refused, value}
 use Rattle.tables.specs.Keys.{firstOf, overOf}
-use Rattle.event_record.specs.Record.{written, soundAt}
+use Rattle.sound_record.specs.Record.{written, soundAt}
 use Rattle.transport_receiver.specs.Types
 use Rattle.transport_receiver.specs.State.{State, Frame, commandKey, payloadAt, stateOf}
 use Rattle.transport_receiver.specs.Step.{Event, command, Outcome, silent, event, stepOf, overLimit}

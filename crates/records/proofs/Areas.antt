@@ -14,7 +14,7 @@ use Rattle.network.specs.declared.Found.the-variants.{Packet, TooShort, Finishe
 use Rattle.network.specs.Split.{packetSize, packetsOf, foundAt}
 use Rattle.network.proofs.Split.{packetsOf-packet, packetsOf-rest, whole-front}
 use Rattle.network.proofs.Walk.{packetsOf-seen, foundAt-ahead}
-use Rattle.event_record.specs.Record.{written, soundAt}
+use Rattle.sound_record.specs.Record.{written, soundAt}
 use Rattle.event_record.specs.Event.{recordOf, packet}
 use Rattle.event_record.proofs.Written.{length-framed}
 use Rattle.event_record.proofs.Fit.{fits-packet}

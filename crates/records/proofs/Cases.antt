@@ -4,7 +4,8 @@ use mathlib.Core.Bool.{true}
 use mathlib.Core.List.{[], _∷_}
 use Rattle.laws.specs.Handed.{refused, value}
 use Rattle.network.specs.Split.{packetsPast}
-use Rattle.event_record.specs.Record.{written, framed, soundAt, soundBody, isBody}
+use Rattle.sound_record.specs.Record.{written, soundAt, soundBody, isBody}
+use Rattle.event_record.specs.Layout.{framed}
 use Rattle.transport_receiver.specs.Step.{enumeration-started, enumeration-ended, slot-counter}
 use Rattle.records.specs.Records.{recordsOf, bytesOf, recordsHanded}
 

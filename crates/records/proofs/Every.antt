@@ -20,7 +20,7 @@ use Rattle.tables.specs.Keys.{firstOf, overOf}
 use Rattle.tables.specs.Places.{valueAt}
 use Rattle.tables.proofs.Laws.{first-holds}
 use Rattle.tables.proofs.Places.{valueAt-held, valueAt-none}
-use Rattle.event_record.specs.Record.{written, soundAt}
+use Rattle.sound_record.specs.Record.{written, soundAt}
 use Rattle.event_record.specs.Event.{recordOf}
 use Rattle.event_record.specs.Event as kind
 use Rattle.event_record.proofs.Written.{length-framed}

@@ -9,10 +9,10 @@ use native.Mathlib.Nat.{le-of-suc-le-suc}
 use native.Mathlib.Omega.{arith}
 use lib.ListN.{length, getD, take, drop, length-append}
 use lib.Seq.{take-append-seam, drop-append-seam}
-use Rattle.event_record.specs.Record.{written, soundAt, standsAt}
+use Rattle.sound_record.specs.Record.{written, soundAt, standsAt}
 use Rattle.event_record.specs.Event.{gatewayIn, saysOf}
-use Rattle.event_record.specs.declared.Stands.the-variants.{Record}
-use Rattle.event_record.proofs.Places.{stands-within}
+use Rattle.sound_record.specs.declared.Stands.the-variants.{Record}
+use Rattle.sound_record.proofs.Places.{stands-within}
 use Rattle.event_record.proofs.Told.{gateway-record, says-record}
 use Rattle.records.specs.Records.{Entry, entryBytes, bytesOf, anyUnsound}
 

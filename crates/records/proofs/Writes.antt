@@ -14,7 +14,7 @@ use Rattle.laws.specs.Handed.{Handed, refused, value}
 use Rattle.laws.proofs.Lay.{length-laidOver, laidOver-append, laidOver-take}
 use Rattle.network.specs.Split.{foundAt}
 use Rattle.network.specs.declared.Found.the-variants.{Packet}
-use Rattle.event_record.specs.Record.{written, soundAt}
+use Rattle.sound_record.specs.Record.{written, soundAt}
 use Rattle.event_record.specs.Event.{recordOf}
 use Rattle.event_record.specs.Event as kind
 use Rattle.event_record.specs.Handed.{framedHanded, recordHanded, recordBytes, laidIf}

@@ -8,7 +8,7 @@ use lib.Dec.{ltb}
 use Rattle.laws.specs.Handed.{Handed, refused, value}
 use Rattle.address.specs.Address.{idLimit}
 use Rattle.network.specs.Split.{packetsOf}
-use Rattle.event_record.specs.Record.{written, soundAt}
+use Rattle.sound_record.specs.Record.{written, soundAt}
 use Rattle.event_record.specs.Event.{recordOf}
 use Rattle.event_record.specs.Event as kind
 use Rattle.event_record.specs.Handed.{laidIf}

@@ -5,7 +5,7 @@ ghost use lib.ListN.{length, take, drop};
 ghost use Rattle.laws.specs.Bytes.{laidOver};
 ghost use Rattle.address.specs.Address.{gatewayOf};
 ghost use Rattle.network.specs.Split.{packetsOf};
-ghost use Rattle.event_record.specs.Record.{written};
+ghost use Rattle.sound_record.specs.Record.{written};
 ghost use Rattle.event_record.specs.Handed.{handed};
 ghost use Rattle.transport_receiver.specs.Step.{slot-counter};
 ghost use Rattle.records.specs.Records.{packetsAt, recordsOf, recordsIn, bytesOf, recordsHanded, recordsBytes, spaceOf};

@@ -4,8 +4,8 @@ ghost use Prim.Native.Nat.{_+_, _≤_, _<_};
 ghost use lib.ListN.{length};
 use address::GatewayID;
 use event_record::Recorded;
-use event_record::Stands;
 use libc::STDOUT_FILENO;
+use sound_record::Stands;
 
 fn pair(hi: u8, lo: u8) -> u16 {
     (hi as u16) * 256 + (lo as u16)
@@ -127,7 +127,7 @@ fn encodes(row: &[u8]) -> bool {
 
 fn stands(row: &[u8]) -> bool {
     let answer = size(row, 1);
-    match event_record::sound_at(first(row), size(row, 5)) {
+    match sound_record::sound_at(first(row), size(row, 5)) {
         Stands::Record { end } => end == answer,
         Stands::Nothing => 0xffff == answer,
     }
@@ -136,7 +136,7 @@ fn stands(row: &[u8]) -> bool {
 fn agrees(row: &[u8]) -> bool {
     match byte(row, 0) {
         0 => {
-            if event_record::sound(first(row)) {
+            if sound_record::sound(first(row)) {
                 number(row, 1) == 1
             } else {
                 number(row, 1) == 0

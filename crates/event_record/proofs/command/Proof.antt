@@ -1,7 +1,7 @@
 -- `event_record::command` asks for 13, 41 and 40 in that order: the lengths of the two payloads decide 41. Assumes nothing.
 use mathlib.Core.Path.{_≡_, refl, sym}
 use native.Mathlib.Omega.{arith}
-use Rattle.event_record.specs.Record.{written}
+use Rattle.sound_record.specs.Record.{written}
 use Rattle.event_record.specs.Event.{bodyOf, command}
 use Rattle.event_record.proofs.Written.{framed-laid, refused-13, refused-41, refused-40, accepted}
 use Rattle.event_record.proofs.Commands.{length-command, command-sound, command-wide, command-long}

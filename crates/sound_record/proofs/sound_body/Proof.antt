@@ -1,11 +1,11 @@
--- `event_record::sound_body` goes by the kind, and asks of each what its law asks. Assumes nothing.
+-- `sound_record::sound_body` goes by the kind, and asks of each what its law asks. Assumes nothing.
 use mathlib.Core.Path.{_≡_, sym, _∙_}
 use native.Mathlib.Omega.{arith}
 use Rattle.utf8.proofs.Laws.{is-text-told}
-use Rattle.event_record.proofs.Soundness.{soundBody-1, soundBody-2, soundBody-3, soundBody-3-long, soundBody-4, soundBody-5, soundBody-6, soundBody-6-length, soundBody-7, soundBody-7-short, soundBody-other}
+use Rattle.sound_record.proofs.Soundness.{soundBody-1, soundBody-2, soundBody-3, soundBody-3-long, soundBody-4, soundBody-5, soundBody-6, soundBody-6-length, soundBody-7, soundBody-7-short, soundBody-other}
 use borrow.Author.Needs.{needs}
-use Rattle.event_record.proofs.sound_body.Statement.{statement}
-use Rattle.event_record.proofs.sound_body.Tie as tie
+use Rattle.sound_record.proofs.sound_body.Statement.{statement}
+use Rattle.sound_record.proofs.sound_body.Tie as tie
 
 returns : tie.Need-returns
 returns c = rw (c .before .match .keys3) (sym (soundBody-3-long _ _ (c .if1 .taken)))

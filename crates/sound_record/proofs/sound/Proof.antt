@@ -1,15 +1,15 @@
--- `event_record::sound` asks the parts of a sound record one after the other. Assumes nothing.
+-- `sound_record::sound` asks the parts of a sound record one after the other. Assumes nothing.
 use mathlib.Core.Path.{_≡_, sym, ap, _∙_}
 use Prim.Native.Nat.{_-_}
 use native.Mathlib.Omega.{arith}
 use mathlib.Core.List.{List}
 use lib.ListN.{length, take, drop, length-drop}
 use lib.Seq.{take-all}
-use Rattle.event_record.specs.Record.{soundBody, written}
-use Rattle.event_record.proofs.Soundness.{sound-body, not-sound}
+use Rattle.sound_record.specs.Record.{soundBody, written}
+use Rattle.sound_record.proofs.Soundness.{sound-body, not-sound}
 use borrow.Author.Needs.{needs}
-use Rattle.event_record.proofs.sound.Statement.{statement}
-use Rattle.event_record.proofs.sound.Tie as tie
+use Rattle.sound_record.proofs.sound.Statement.{statement}
+use Rattle.sound_record.proofs.sound.Tie as tie
 
 returns : tie.Need-returns
 returns c = sym (not-sound _ _ (λ p. omega (arith, p .head)))

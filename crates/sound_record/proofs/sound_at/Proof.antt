@@ -1,12 +1,12 @@
--- `event_record::sound_at` tests just the bytes that the length at the place says, if the log has them. Assumes nothing.
+-- `sound_record::sound_at` tests just the bytes that the length at the place says, if the log has them. Assumes nothing.
 use mathlib.Core.Path.{_≡_, sym}
 use Prim.Native.Nat.{_+_}
 use native.Mathlib.Omega.{arith}
-use Rattle.event_record.specs.Record.{written}
-use Rattle.event_record.proofs.Places.{stands-few, stands-cut, stands-tested, stands-tested-not}
+use Rattle.sound_record.specs.Record.{written}
+use Rattle.sound_record.proofs.Places.{stands-few, stands-cut, stands-tested, stands-tested-not}
 use borrow.Author.Needs.{needs}
-use Rattle.event_record.proofs.sound_at.Statement.{statement}
-use Rattle.event_record.proofs.sound_at.Tie as tie
+use Rattle.sound_record.proofs.sound_at.Statement.{statement}
+use Rattle.sound_record.proofs.sound_at.Tie as tie
 
 returns : tie.Need-returns
 returns c = let a = c .before .before .args in sym (stands-few written (a .log .now) (a .at) (omega arith))

@@ -1,10 +1,10 @@
--- `event_record::sound_command` asks the three lengths of kind 8. Assumes nothing.
+-- `sound_record::sound_command` asks the three lengths of kind 8. Assumes nothing.
 use mathlib.Core.Path.{sym}
 use native.Mathlib.Omega.{arith}
-use Rattle.event_record.proofs.Soundness.{soundBody-8, soundBody-8-short, soundBody-8-long}
+use Rattle.sound_record.proofs.Soundness.{soundBody-8, soundBody-8-short, soundBody-8-long}
 use borrow.Author.Needs.{needs}
-use Rattle.event_record.proofs.sound_command.Statement.{statement}
-use Rattle.event_record.proofs.sound_command.Tie as tie
+use Rattle.sound_record.proofs.sound_command.Statement.{statement}
+use Rattle.sound_record.proofs.sound_command.Tie as tie
 
 returns : tie.Need-returns
 returns c = sym (soundBody-8-short _ _ (c .if1 .taken))

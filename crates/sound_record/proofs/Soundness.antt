@@ -11,7 +11,7 @@ use Rattle.laws.specs.Bytes.{be16At}
 use Rattle.utf8.specs.Scan.{isText}
 use Rattle.network.specs.Split.{packetSize}
 use Rattle.address.specs.Address.{idLimit}
-use Rattle.event_record.specs.Record.{bodyStart, isCounter, isBody, soundBody, whole, shows, soundAt}
+use Rattle.sound_record.specs.Record.{bodyStart, isCounter, isBody, soundBody, whole, shows, soundAt}
 
 -- a test that a later one implies need not be asked
 implied : (a b : Bool) → (b ≡ true → a ≡ true) → (a && b) ≡ b

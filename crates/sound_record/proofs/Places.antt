@@ -8,10 +8,10 @@ use native.Mathlib.Omega.{arith}
 use lib.ListN.{length, getD, take, drop, length-take, length-drop, take-append-drop, List·getD-append}
 use lib.Seq.{getD-take, getD-drop, length-take-le, take-append-seam, drop-append-seam}
 use Rattle.laws.specs.Bytes.{be16At}
-use Rattle.event_record.specs.Record.{bodyStart, soundAt, recordAt, standsAt}
-use Rattle.event_record.specs.declared.Stands.{Stands}
-use Rattle.event_record.specs.declared.Stands.the-variants.{Record, Nothing}
-use Rattle.event_record.proofs.Soundness.{Parts, sound-parts, not-sound}
+use Rattle.sound_record.specs.Record.{bodyStart, soundAt, recordAt, standsAt}
+use Rattle.sound_record.specs.declared.Stands.{Stands}
+use Rattle.sound_record.specs.declared.Stands.the-variants.{Record, Nothing}
+use Rattle.sound_record.proofs.Soundness.{Parts, sound-parts, not-sound}
 
 -- a start of a list is as many of its elements as the start has
 take-length-take : (n : ℕ) (l : List ℕ) → take (length (take n l)) l ≡ take n l

@@ -1,36 +1,20 @@
--- The event record, a house form: its layout, and when a record is sound at a version. What depends on the version stands in functions
+-- The event record, a house form: when a record is sound at a version. What depends on the version stands in functions
 -- of it; of version 1, which is written, they say what 01 says. Assumes nothing.
 use Prim.Native.Nat.{ℕ, _+_, _^_}
 use mathlib.Core.Bool.{Bool, true, false, cond, _&&_}
-use mathlib.Core.List.{List, [], _∷_, _++_}
+use mathlib.Core.List.{List}
 use lib.ListN.{length, getD, take, drop}
-use lib.Seq.{paste}
 use lib.Dec.{leb, ltb, eqb}
-use Rattle.laws.specs.Bytes.{be16, be16At}
+use Rattle.laws.specs.Bytes.{be16At}
 use Rattle.address.specs.Address.{idLimit}
 use Rattle.utf8.specs.Scan.{isText}
 use Rattle.network.specs.Split.{packetSize}
-use Rattle.event_record.specs.declared.Stands.{Stands}
-use Rattle.event_record.specs.declared.Stands.the-variants.{Record, Nothing}
+use Rattle.sound_record.specs.declared.Stands.{Stands}
+use Rattle.sound_record.specs.declared.Stands.the-variants.{Record, Nothing}
 
 -- 01, "Event record": version 1
 abbrev pub written : ℕ
 written = 1
-
--- 01, "Event record": Length (2, big-endian, of what follows), version 1, kind, gateway (2, big-endian), body
-abbrev pub following : ℕ → ℕ → ℕ → List ℕ → List ℕ
-following v kind gateway body = v ∷ kind ∷ (be16 gateway ++ body)
-
-unfoldable pub framed : ℕ → ℕ → ℕ → List ℕ → List ℕ
-framed v kind gateway body = be16 (length (following v kind gateway body)) ++ following v kind gateway body
-
--- a record up to its body of n bytes
-abbrev pub headOf : ℕ → ℕ → ℕ → ℕ → List ℕ
-headOf v kind gateway n = be16 (4 + n) ++ (v ∷ kind ∷ be16 gateway)
-
--- a buffer with a piece copied in from a place: just those bytes change
-abbrev pub laidAt : ℕ → List ℕ → List ℕ → List ℕ
-laidAt at piece out = paste out at piece (length piece)
 
 -- where the body starts in a record of version v
 abbrev pub bodyStart : ℕ → ℕ
