@@ -4,7 +4,7 @@
 # Run it after `rt check`, whose libraries it uses. A new kind is a word more in KINDS.
 set -eu
 cd "$(dirname "$0")/.."
-KINDS="address::GatewayID link::Type transport::PacketNumber transport::CommandSequenceNumber"
+KINDS="address::GatewayID link::Type transport::PacketNumber layouts::CommandSequenceNumber"
 
 work=$(mktemp -d)
 trap 'rm -rf "$work"' EXIT

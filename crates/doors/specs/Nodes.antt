@@ -9,8 +9,8 @@ use Rattle.network.specs.declared.Successor.the-variants.{Next, Last}
 use Rattle.network.specs.declared.ReceivedPacketHeader.{ReceivedPacketHeader}
 use Rattle.network.specs.declared.HeaderRead.{HeaderRead}
 use Rattle.network.specs.declared.HeaderRead.the-variants.{Header, HeaderTooShort}
-use Rattle.transport.specs.declared.Named.{Named}
-use Rattle.transport.specs.declared.Named.the-variants.{Gateway, FromAddress}
+use Rattle.layouts.specs.declared.Named.{Named}
+use Rattle.layouts.specs.declared.Named.the-variants.{Gateway, FromAddress}
 
 -- a node's number; 2^16 for none
 abbrev pub nodeNumber : Node → ℕ

@@ -2,8 +2,11 @@
 ghost use mathlib.Core.Path.{_≡_};
 ghost use Prim.Native.Nat.{_+_, _%_};
 ghost use Rattle.network.specs.Nodes.{nodeOf, addressOf, headerOf};
-ghost use Rattle.transport.specs.Layouts.{namedOf, identifyResponseIn, enumerationStartRequestIn};
+ghost use Rattle.layouts.specs.Layouts.{namedOf, identifyResponseIn, enumerationStartRequestIn};
 ghost use Rattle.doors.specs.Nodes.{namedNumber, nodeNumber, successorNumber, afterNumber, headerList, headerAnswer, headerFields};
+use layouts::EnumerationStartRequest;
+use layouts::IdentifyResponse;
+use layouts::Named;
 use network::DSN;
 use network::HeaderRead;
 use network::Node;
@@ -11,9 +14,6 @@ use network::NodeAddress;
 use network::NodeID;
 use network::ReceivedPacketHeader;
 use network::Successor;
-use transport::EnumerationStartRequest;
-use transport::IdentifyResponse;
-use transport::Named;
 
 // The node that an address names; 2^16 for none.
 #[no_mangle]

@@ -130,20 +130,20 @@ use Rattle.transport.proofs.needed.Kinds as transport·needed·kinds
 use Rattle.transport.proofs.needed.Reads as transport·needed·reads
 use Rattle.transport.proofs.interpret_packet_number_lo.Kinds as transport·interpret-packet-number-lo·kinds
 use Rattle.transport.proofs.interpret_packet_number_lo.Reads as transport·interpret-packet-number-lo·reads
-use Rattle.transport.proofs.CommandRequest.read.Kinds as transport·CommandRequest·read·kinds
-use Rattle.transport.proofs.CommandRequest.read.Reads as transport·CommandRequest·read·reads
-use Rattle.transport.proofs.CommandResponse.read.Kinds as transport·CommandResponse·read·kinds
-use Rattle.transport.proofs.CommandResponse.read.Reads as transport·CommandResponse·read·reads
-use Rattle.transport.proofs.ReceiveRequest.read.Kinds as transport·ReceiveRequest·read·kinds
-use Rattle.transport.proofs.ReceiveRequest.read.Reads as transport·ReceiveRequest·read·reads
-use Rattle.transport.proofs.IdentifyResponse.read.Kinds as transport·IdentifyResponse·read·kinds
-use Rattle.transport.proofs.IdentifyResponse.read.Reads as transport·IdentifyResponse·read·reads
-use Rattle.transport.proofs.IdentifyResponse.gateway_id.Kinds as transport·IdentifyResponse·gateway-id·kinds
-use Rattle.transport.proofs.IdentifyResponse.gateway_id.Reads as transport·IdentifyResponse·gateway-id·reads
-use Rattle.transport.proofs.EnumerationStartRequest.read.Kinds as transport·EnumerationStartRequest·read·kinds
-use Rattle.transport.proofs.EnumerationStartRequest.read.Reads as transport·EnumerationStartRequest·read·reads
-use Rattle.transport.proofs.EnumerationStartRequest.enumeration_gateway_id.Kinds as transport·EnumerationStartRequest·enumeration-gateway-id·kinds
-use Rattle.transport.proofs.EnumerationStartRequest.enumeration_gateway_id.Reads as transport·EnumerationStartRequest·enumeration-gateway-id·reads
+use Rattle.layouts.proofs.CommandRequest.read.Kinds as layouts·CommandRequest·read·kinds
+use Rattle.layouts.proofs.CommandRequest.read.Reads as layouts·CommandRequest·read·reads
+use Rattle.layouts.proofs.CommandResponse.read.Kinds as layouts·CommandResponse·read·kinds
+use Rattle.layouts.proofs.CommandResponse.read.Reads as layouts·CommandResponse·read·reads
+use Rattle.layouts.proofs.ReceiveRequest.read.Kinds as layouts·ReceiveRequest·read·kinds
+use Rattle.layouts.proofs.ReceiveRequest.read.Reads as layouts·ReceiveRequest·read·reads
+use Rattle.layouts.proofs.IdentifyResponse.read.Kinds as layouts·IdentifyResponse·read·kinds
+use Rattle.layouts.proofs.IdentifyResponse.read.Reads as layouts·IdentifyResponse·read·reads
+use Rattle.layouts.proofs.IdentifyResponse.gateway_id.Kinds as layouts·IdentifyResponse·gateway-id·kinds
+use Rattle.layouts.proofs.IdentifyResponse.gateway_id.Reads as layouts·IdentifyResponse·gateway-id·reads
+use Rattle.layouts.proofs.EnumerationStartRequest.read.Kinds as layouts·EnumerationStartRequest·read·kinds
+use Rattle.layouts.proofs.EnumerationStartRequest.read.Reads as layouts·EnumerationStartRequest·read·reads
+use Rattle.layouts.proofs.EnumerationStartRequest.enumeration_gateway_id.Kinds as layouts·EnumerationStartRequest·enumeration-gateway-id·kinds
+use Rattle.layouts.proofs.EnumerationStartRequest.enumeration_gateway_id.Reads as layouts·EnumerationStartRequest·enumeration-gateway-id·reads
 use Rattle.transport.proofs.ReceiveResponse.read.Kinds as transport·ReceiveResponse·read·kinds
 use Rattle.transport.proofs.ReceiveResponse.read.Reads as transport·ReceiveResponse·read·reads
 use Rattle.tables.proofs.find.Kinds as tables·find·kinds
@@ -190,6 +190,8 @@ use Rattle.words.proofs.word.Kinds as words·word·kinds
 use Rattle.words.proofs.word.Reads as words·word·reads
 use Rattle.words.proofs.put_word.Kinds as words·put-word·kinds
 use Rattle.words.proofs.put_word.Reads as words·put-word·reads
+use Rattle.words.proofs.byte_at.Kinds as words·byte-at·kinds
+use Rattle.words.proofs.byte_at.Reads as words·byte-at·reads
 use Rattle.words.proofs.be16.Kinds as words·be16·kinds
 use Rattle.words.proofs.be16.Reads as words·be16·reads
 use Rattle.runs.proofs.is.Kinds as runs·is·kinds
@@ -382,26 +384,26 @@ transport·needed κs a x y u v p q = (p ∙ sym q, refl)
 pub transport·interpret-packet-number-lo : Determined 0 transport·interpret-packet-number-lo·kinds.ps transport·interpret-packet-number-lo·kinds.r transport·interpret-packet-number-lo·reads.Learnt
 transport·interpret-packet-number-lo κs a x y u v p q = (ap packetNumber (p ∙ sym q), refl)
 
-pub transport·CommandRequest·read : Determined 1 transport·CommandRequest·read·kinds.ps transport·CommandRequest·read·kinds.r transport·CommandRequest·read·reads.Learnt
-transport·CommandRequest·read κs a x y u v p q = (p ∙ sym q, refl)
+pub layouts·CommandRequest·read : Determined 1 layouts·CommandRequest·read·kinds.ps layouts·CommandRequest·read·kinds.r layouts·CommandRequest·read·reads.Learnt
+layouts·CommandRequest·read κs a x y u v p q = (p ∙ sym q, refl)
 
-pub transport·CommandResponse·read : Determined 1 transport·CommandResponse·read·kinds.ps transport·CommandResponse·read·kinds.r transport·CommandResponse·read·reads.Learnt
-transport·CommandResponse·read κs a x y u v p q = (p ∙ sym q, refl)
+pub layouts·CommandResponse·read : Determined 1 layouts·CommandResponse·read·kinds.ps layouts·CommandResponse·read·kinds.r layouts·CommandResponse·read·reads.Learnt
+layouts·CommandResponse·read κs a x y u v p q = (p ∙ sym q, refl)
 
-pub transport·ReceiveRequest·read : Determined 1 transport·ReceiveRequest·read·kinds.ps transport·ReceiveRequest·read·kinds.r transport·ReceiveRequest·read·reads.Learnt
-transport·ReceiveRequest·read κs a x y u v p q = (p ∙ sym q, refl)
+pub layouts·ReceiveRequest·read : Determined 1 layouts·ReceiveRequest·read·kinds.ps layouts·ReceiveRequest·read·kinds.r layouts·ReceiveRequest·read·reads.Learnt
+layouts·ReceiveRequest·read κs a x y u v p q = (p ∙ sym q, refl)
 
-pub transport·IdentifyResponse·read : Determined 1 transport·IdentifyResponse·read·kinds.ps transport·IdentifyResponse·read·kinds.r transport·IdentifyResponse·read·reads.Learnt
-transport·IdentifyResponse·read κs a x y u v p q = (p ∙ sym q, refl)
+pub layouts·IdentifyResponse·read : Determined 1 layouts·IdentifyResponse·read·kinds.ps layouts·IdentifyResponse·read·kinds.r layouts·IdentifyResponse·read·reads.Learnt
+layouts·IdentifyResponse·read κs a x y u v p q = (p ∙ sym q, refl)
 
-pub transport·IdentifyResponse·gateway-id : Determined 0 transport·IdentifyResponse·gateway-id·kinds.ps transport·IdentifyResponse·gateway-id·kinds.r transport·IdentifyResponse·gateway-id·reads.Learnt
-transport·IdentifyResponse·gateway-id κs a x y u v p q = (p ∙ sym q, refl)
+pub layouts·IdentifyResponse·gateway-id : Determined 0 layouts·IdentifyResponse·gateway-id·kinds.ps layouts·IdentifyResponse·gateway-id·kinds.r layouts·IdentifyResponse·gateway-id·reads.Learnt
+layouts·IdentifyResponse·gateway-id κs a x y u v p q = (p ∙ sym q, refl)
 
-pub transport·EnumerationStartRequest·read : Determined 1 transport·EnumerationStartRequest·read·kinds.ps transport·EnumerationStartRequest·read·kinds.r transport·EnumerationStartRequest·read·reads.Learnt
-transport·EnumerationStartRequest·read κs a x y u v p q = (p ∙ sym q, refl)
+pub layouts·EnumerationStartRequest·read : Determined 1 layouts·EnumerationStartRequest·read·kinds.ps layouts·EnumerationStartRequest·read·kinds.r layouts·EnumerationStartRequest·read·reads.Learnt
+layouts·EnumerationStartRequest·read κs a x y u v p q = (p ∙ sym q, refl)
 
-pub transport·EnumerationStartRequest·enumeration-gateway-id : Determined 0 transport·EnumerationStartRequest·enumeration-gateway-id·kinds.ps transport·EnumerationStartRequest·enumeration-gateway-id·kinds.r transport·EnumerationStartRequest·enumeration-gateway-id·reads.Learnt
-transport·EnumerationStartRequest·enumeration-gateway-id κs a x y u v p q = (p ∙ sym q, refl)
+pub layouts·EnumerationStartRequest·enumeration-gateway-id : Determined 0 layouts·EnumerationStartRequest·enumeration-gateway-id·kinds.ps layouts·EnumerationStartRequest·enumeration-gateway-id·kinds.r layouts·EnumerationStartRequest·enumeration-gateway-id·reads.Learnt
+layouts·EnumerationStartRequest·enumeration-gateway-id κs a x y u v p q = (p ∙ sym q, refl)
 
 pub transport·ReceiveResponse·read : Determined 1 transport·ReceiveResponse·read·kinds.ps transport·ReceiveResponse·read·kinds.r transport·ReceiveResponse·read·reads.Learnt
 transport·ReceiveResponse·read κs a x y u v p q = (p ∙ sym q, refl)
@@ -471,6 +473,9 @@ words·word κs a x y u v p q = (p ∙ sym q, refl)
 
 pub words·put-word : Determined 1 words·put-word·kinds.ps words·put-word·kinds.r words·put-word·reads.Learnt
 words·put-word κs a x y u v p q = (refl, ap (λ (z : List ℕ). (at-last (a .0) z, (a .1 .0, tt))) (p ∙ sym q))
+
+pub words·byte-at : Determined 1 words·byte-at·kinds.ps words·byte-at·kinds.r words·byte-at·reads.Learnt
+words·byte-at κs a x y u v p q = (p ∙ sym q, refl)
 
 pub words·be16 : Determined 0 words·be16·kinds.ps words·be16·kinds.r words·be16·reads.Learnt
 words·be16 κs a x y u v p q = (p ∙ sym q, refl)

@@ -1,4 +1,3 @@
 pub mod Status
 pub mod Marked
 pub mod Response
-pub mod Layouts

@@ -8,10 +8,10 @@ use crate::OptionalByte;
 use crate::OptionalPair;
 use crate::PacketNumber;
 use crate::ReceiveResponse;
-use crate::be16;
-use crate::byte_at;
 use crate::interpret_packet_number_lo;
 use slot_counter::SlotCounter;
+use words::be16;
+use words::byte_at;
 
 // The size of a field that is there while its bit is clear.
 pub fn field_size(status: u16, bit: u16, size: usize) -> usize

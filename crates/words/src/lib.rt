@@ -1,7 +1,8 @@
 // Four or eight bytes at once as one number, the first byte lowest. A caller lends just those bytes, so that their length need not be asked at run time.
-// And two bytes as a number, the first byte highest.
+// And single bytes, and two as a number, the first byte highest.
 ghost use mathlib.Core.Path.{_≡_};
 ghost use Prim.Native.Nat.{_^_, _<_};
+ghost use lib.ListN.{getD};
 ghost use Rattle.laws.specs.Bytes.{of16};
 ghost use Rattle.words.specs.Words.{numberOf, putOf};
 
@@ -57,4 +58,14 @@ pub fn be16(hi: u8, lo: u8) -> u16
     ensures { λ r. ⌜ r ≡ of16 hi lo ⌝ }
 {
     (hi as u16) * 256 + (lo as u16)
+}
+
+// A byte of a slice; 0 past its end.
+pub fn byte_at(s: &[u8], at: usize) -> u8
+    ensures { λ r. ⌜ r ≡ getD (now (s .entry)) at 0 ⌝ }
+{
+    if at < s.len() {
+        return s[at];
+    }
+    0
 }

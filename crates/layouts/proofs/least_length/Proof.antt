@@ -1,7 +1,7 @@
--- `transport::least_length` compares the lengths. Assumes nothing.
+-- `layouts::least_length` compares the lengths. Assumes nothing.
 use borrow.Author.Tests.{lt-ltb, le-ltb}
-use Rattle.transport.proofs.least_length.Statement.{statement}
-use Rattle.transport.proofs.least_length.Tie as tie
+use Rattle.layouts.proofs.least_length.Statement.{statement}
+use Rattle.layouts.proofs.least_length.Tie as tie
 
 returns : tie.Need-returns
 returns c = rw (lt-ltb _ _ (c .if1 .taken))

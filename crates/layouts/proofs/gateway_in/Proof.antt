@@ -1,8 +1,8 @@
--- `transport::gateway_in` takes the address apart by its direction. Assumes nothing.
-use Rattle.transport.specs.Layouts.{namedOf}
+-- `layouts::gateway_in` takes the address apart by its direction. Assumes nothing.
+use Rattle.layouts.specs.Layouts.{namedOf}
 use borrow.Author.Needs.{needs}
-use Rattle.transport.proofs.gateway_in.Statement.{statement}
-use Rattle.transport.proofs.gateway_in.Tie as tie
+use Rattle.layouts.proofs.gateway_in.Statement.{statement}
+use Rattle.layouts.proofs.gateway_in.Tie as tie
 
 from-be-bytes-requires : tie.Need-from-be-bytes-requires
 from-be-bytes-requires c κs = search needs

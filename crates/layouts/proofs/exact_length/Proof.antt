@@ -1,7 +1,7 @@
--- `transport::exact_length` compares the lengths. Assumes nothing.
+-- `layouts::exact_length` compares the lengths. Assumes nothing.
 use borrow.Author.Tests.{eq-eqb, ne-eqb}
-use Rattle.transport.proofs.exact_length.Statement.{statement}
-use Rattle.transport.proofs.exact_length.Tie as tie
+use Rattle.layouts.proofs.exact_length.Statement.{statement}
+use Rattle.layouts.proofs.exact_length.Tie as tie
 
 returns : tie.Need-returns
 returns c = rw (eq-eqb _ _ (c .if1 .taken))

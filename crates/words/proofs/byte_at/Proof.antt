@@ -1,9 +1,9 @@
--- `transport::byte_at` is a byte of the list, and 0 past its end. Assumes nothing.
+-- `words::byte_at` is a byte of the list, and 0 past its end. Assumes nothing.
 use mathlib.Core.Path.{sym}
 use lib.ListN.{List·getD-eq-default}
 use borrow.Author.Needs.{needs}
-use Rattle.transport.proofs.byte_at.Statement.{statement}
-use Rattle.transport.proofs.byte_at.Tie as tie
+use Rattle.words.proofs.byte_at.Statement.{statement}
+use Rattle.words.proofs.byte_at.Tie as tie
 
 shared-slice-read-result : tie.Need-shared-slice-read-result
 shared-slice-read-result c = search needs
@@ -12,7 +12,7 @@ returns : tie.Need-returns
 returns c = search needs
 
 returns-2 : tie.Need-returns-2
-returns-2 c = sym (List·getD-eq-default (c .before .args .payload .now) 0 {n = c .before .args .at} (c .if1 .left))
+returns-2 c = sym (List·getD-eq-default (c .before .args .s .now) 0 {n = c .before .args .at} (c .if1 .left))
 
 pub byte-at-spec : {M : Type 1} → statement M
 byte-at-spec = tie.close (tie.spec shared-slice-read-result returns returns-2)

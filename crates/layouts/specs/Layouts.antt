@@ -9,15 +9,15 @@ use Rattle.laws.specs.Handed.{Handed, refused, value}
 use Rattle.address.specs.declared.Address.{Address}
 use Rattle.address.specs.declared.Address.the-variants.{From, To}
 use Rattle.address.specs.Address.{addressOf}
-use Rattle.transport.specs.declared.Length.{Length}
-use Rattle.transport.specs.declared.Length.the-variants.{Right, Wrong}
-use Rattle.transport.specs.declared.Named.{Named}
-use Rattle.transport.specs.declared.Named.the-variants.{Gateway, FromAddress}
-use Rattle.transport.specs.declared.CommandRequest.{CommandRequest}
-use Rattle.transport.specs.declared.CommandResponse.{CommandResponse}
-use Rattle.transport.specs.declared.ReceiveRequest.{ReceiveRequest}
-use Rattle.transport.specs.declared.IdentifyResponse.{IdentifyResponse}
-use Rattle.transport.specs.declared.EnumerationStartRequest.{EnumerationStartRequest}
+use Rattle.layouts.specs.declared.Length.{Length}
+use Rattle.layouts.specs.declared.Length.the-variants.{Right, Wrong}
+use Rattle.layouts.specs.declared.Named.{Named}
+use Rattle.layouts.specs.declared.Named.the-variants.{Gateway, FromAddress}
+use Rattle.layouts.specs.declared.CommandRequest.{CommandRequest}
+use Rattle.layouts.specs.declared.CommandResponse.{CommandResponse}
+use Rattle.layouts.specs.declared.ReceiveRequest.{ReceiveRequest}
+use Rattle.layouts.specs.declared.IdentifyResponse.{IdentifyResponse}
+use Rattle.layouts.specs.declared.EnumerationStartRequest.{EnumerationStartRequest}
 
 -- 01, "Numbers handed back", 21: wrong or short fixed length
 abbrev pub handed : {A : Type 0} → Length → A → Handed A

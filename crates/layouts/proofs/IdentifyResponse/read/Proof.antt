@@ -1,7 +1,7 @@
 -- `IdentifyResponse::read`: the length is 10, and each field is read at its place. Assumes nothing.
 use borrow.Author.Needs.{needs}
-use Rattle.transport.proofs.IdentifyResponse.read.Statement.{statement}
-use Rattle.transport.proofs.IdentifyResponse.read.Tie as tie
+use Rattle.layouts.proofs.IdentifyResponse.read.Statement.{statement}
+use Rattle.layouts.proofs.IdentifyResponse.read.Tie as tie
 
 exact-length-requires : tie.Need-exact-length-requires
 exact-length-requires c κs = search needs

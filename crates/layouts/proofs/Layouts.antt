@@ -11,10 +11,10 @@ use Rattle.laws.specs.Handed.{Handed, refused, value}
 use Rattle.address.specs.declared.Address.{Address}
 use Rattle.address.specs.declared.Address.the-variants.{From, To}
 use Rattle.address.specs.Address.{addressOf}
-use Rattle.transport.specs.declared.Length.the-variants.{Right, Wrong}
-use Rattle.transport.specs.declared.Named.{Named}
-use Rattle.transport.specs.declared.Named.the-variants.{Gateway, FromAddress}
-use Rattle.transport.specs.Layouts.{handed, exactly, atLeast, toGateway, namedOf, handedNamed}
+use Rattle.layouts.specs.declared.Length.the-variants.{Right, Wrong}
+use Rattle.layouts.specs.declared.Named.{Named}
+use Rattle.layouts.specs.declared.Named.the-variants.{Gateway, FromAddress}
+use Rattle.layouts.specs.Layouts.{handed, exactly, atLeast, toGateway, namedOf, handedNamed}
 
 module _ {A : Type 0} (n : ℕ) (p : List ℕ) (a : A) where
   -- 21 exactly for a length other than n: receive request, identify and enumeration response, enumeration start
