@@ -143,7 +143,7 @@ fn count(counters: &mut [u64; 33], kind: u16) -> Answer
     }
 }
 
-// The types that touch no table, those that no type names among them. Refused by 31, 20, 21, 28, 29.
+// The types that touch no table; any other number is 31. Refused by 31, 20, 21, 28, 29, in this order.
 pub fn untabled(
     counters: &mut [u64; 33],
     from: bool,
