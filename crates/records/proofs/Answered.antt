@@ -12,16 +12,18 @@ use Rattle.laws.specs.Bytes.{Bytes}
 use Rattle.laws.specs.Handed.{refused, value}
 use Rattle.tables.specs.Keys.{firstOf, overOf}
 use Rattle.sound_record.specs.Record.{written, soundAt}
-use Rattle.transport_receiver.specs.Types
-use Rattle.transport_receiver.specs.State.{State, Frame, commandKey, payloadAt, stateOf}
+use Rattle.handlers.specs.Types
+use Rattle.handlers.specs.Stored.{commandKey}
+use Rattle.handlers.specs.Command.{commandResponseIn}
+use Rattle.transport_receiver.specs.State.{State, Frame, payloadAt, stateOf}
 use Rattle.transport_receiver.specs.Step.{Event, command, Outcome, silent, event, stepOf, overLimit}
 use Rattle.transport_receiver.specs.Step as step
-use Rattle.transport_receiver.specs.Lent.{requestPayload, commandResponseIn, handledIn, stepIn}
+use Rattle.transport_receiver.specs.Lent.{requestPayload, handledIn, stepIn}
 use Rattle.transport_receiver.specs.Handed.{handed}
 use Rattle.transport_receiver.specs.declared.Receiver.{Receiver}
 use Rattle.transport_receiver.specs.declared.Stepped.{Stepped}
-use Rattle.transport_receiver.specs.declared.Answer.{Answer}
-use Rattle.transport_receiver.specs.declared.Answer.the-variants.{OverLimit, InvalidGatewayID, WrongDirection, WrongLength, UnknownStatusType, TooShort, UnknownGateway, NumbersFull, SequencesFull, CommandsFull, NamesFrom, InvalidVersion, NoRequest, UnhandledType, PayloadTooLong, Counted, CommandKept, EnumerationStarted, IdentityObserved, VersionObserved, EnumerationEnded, SlotCounterCaptured, SlotCounterObserved, CommandExecuted}
+use Rattle.handlers.specs.declared.Answer.{Answer}
+use Rattle.handlers.specs.declared.Answer.the-variants.{OverLimit, InvalidGatewayID, WrongDirection, WrongLength, UnknownStatusType, TooShort, UnknownGateway, NumbersFull, SequencesFull, CommandsFull, NamesFrom, InvalidVersion, NoRequest, UnhandledType, PayloadTooLong, Counted, CommandKept, EnumerationStarted, IdentityObserved, VersionObserved, EnumerationEnded, SlotCounterCaptured, SlotCounterObserved, CommandExecuted}
 use Rattle.transport_receiver.proofs.Pool.{overLimit-places}
 use Rattle.laws.proofs.Cases.{by}
 use Rattle.transport_receiver.proofs.Refines.{Sized, refines}

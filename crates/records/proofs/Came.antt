@@ -13,7 +13,7 @@ use Rattle.laws.specs.Bytes.{be16At}
 use Rattle.address.specs.Address.{gatewayOf, addressOf}
 use Rattle.transport.specs.Status.{neededOf}
 use Rattle.tables.specs.Places.{valueAt}
-use Rattle.transport_receiver.specs.Types
+use Rattle.handlers.specs.Types
 use Rattle.transport_receiver.specs.State.{State, Frame, Command}
 use Rattle.transport_receiver.specs.Step.{Event, enumeration-started, identity, version, enumeration-ended, slot-captured, slot-counter, command, silent, event, Row, rowsOfAny, rowsOfType, judged, accepted, executedOf, stepOf, keyOf, statusOf}
 use Rattle.transport_receiver.specs.Reached.{isRefusal}

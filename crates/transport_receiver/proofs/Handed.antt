@@ -10,8 +10,8 @@ use Rattle.transport_receiver.specs.State.{Frame}
 use Rattle.transport_receiver.specs.Step.{Outcome, refused, short, silent, event}
 use Rattle.transport_receiver.specs.Reached.{isRefusal}
 use Rattle.transport_receiver.specs.Handed.{handed}
-use Rattle.transport_receiver.specs.declared.Answer.{Answer}
-use Rattle.transport_receiver.specs.declared.Answer.the-variants.{OverLimit, InvalidGatewayID, WrongDirection, WrongLength, UnknownStatusType, TooShort, UnknownGateway, NumbersFull, SequencesFull, CommandsFull, NamesFrom, InvalidVersion, NoRequest, UnhandledType, PayloadTooLong, Counted, CommandKept, EnumerationStarted, IdentityObserved, VersionObserved, EnumerationEnded, SlotCounterCaptured, SlotCounterObserved, CommandExecuted}
+use Rattle.handlers.specs.declared.Answer.{Answer}
+use Rattle.handlers.specs.declared.Answer.the-variants.{OverLimit, InvalidGatewayID, WrongDirection, WrongLength, UnknownStatusType, TooShort, UnknownGateway, NumbersFull, SequencesFull, CommandsFull, NamesFrom, InvalidVersion, NoRequest, UnhandledType, PayloadTooLong, Counted, CommandKept, EnumerationStarted, IdentityObserved, VersionObserved, EnumerationEnded, SlotCounterCaptured, SlotCounterObserved, CommandExecuted}
 
 -- the refusal that a number stands for
 refusalOf : Outcome → Answer

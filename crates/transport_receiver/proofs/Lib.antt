@@ -1,5 +1,4 @@
 pub mod Pool
-pub mod Read
 pub mod Refines
 pub mod Reached
 pub mod Source

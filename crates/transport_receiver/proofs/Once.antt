@@ -11,7 +11,7 @@ use borrow.Author.Tests.{eqb-true, eqb-false}
 use Rattle.laws.proofs.Cases.{by, never}
 use Rattle.tables.specs.Places.{isHeld, valueAt, removed, stored, Distinct}
 use Rattle.tables.proofs.Maps.{valueAt-stored-other, valueAt-removed-unheld, unheld-valueAt, valueAt-unheld, isHeld-removed}
-use Rattle.transport_receiver.specs.Types
+use Rattle.handlers.specs.Types
 use Rattle.transport_receiver.specs.State.{State, Frame, Command}
 use Rattle.transport_receiver.specs.Step.{Event, Outcome, refused, short, silent, event, Result, Row, rowsOfAny, rowsOfType, judged, accepted, executedOf, stepOf, overLimit, keyOf, requestOf}
 use Rattle.transport_receiver.specs.Reached.{Since, here, on, isRefusal, SameTables}

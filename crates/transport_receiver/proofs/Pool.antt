@@ -12,10 +12,10 @@ use Rattle.laws.proofs.Cases.{by}
 use Rattle.tables.specs.Keys.{firstOf, seatOf, overOf}
 use Rattle.tables.specs.Places.{Place, free, held, placeOf, placesFrom, placesOf, stored}
 use Rattle.tables.proofs.Places.{stored-places}
-use Rattle.transport_receiver.specs.State.{Command, commandKey, commandIn, payloadAt, roomOfCommand}
+use Rattle.handlers.specs.Stored.{commandKey}
+use Rattle.transport_receiver.specs.State.{Command, commandIn, payloadAt, roomOfCommand}
 use Rattle.transport_receiver.specs.Step.{isOver, overLimit}
 
--- a claim proved for either value of a test
 -- what is pasted changes no element before it and none behind it
 module _ (d : List ℕ) (at : ℕ) (s : List ℕ) (n : ℕ) (fits : at + n ≤ length d) (has : n ≤ length s) where
   parts : paste d at s n ≡ take at d ++ (take n s ++ drop (at + n) d)

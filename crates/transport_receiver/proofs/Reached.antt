@@ -12,7 +12,7 @@ use Rattle.laws.specs.Bytes.{be16At}
 use Rattle.transport.specs.Number.{numberOf}
 use Rattle.tables.proofs.Places.{getD-places}
 use Rattle.tables.proofs.Maps.{distinct-stored, distinct-removed, isHeld-removed}
-use Rattle.transport_receiver.specs.Types
+use Rattle.handlers.specs.Types
 use Rattle.transport_receiver.specs.State.{State, Frame, Command, stateOf, fresh}
 use Rattle.transport_receiver.specs.Step.{Event, Outcome, refused, event, Result, Row, rowsOfAny, rowsOfType, judged, accepted, stepOf, isOver, overLimit, keyOf, statusOf, numberIn, sequenceOf, requestOf}
 use Rattle.transport_receiver.specs.Reached.{Reached, start, on, AllDistinct}

@@ -17,13 +17,17 @@ use Rattle.transport.specs.Status.{acceptedOf, neededOf}
 use Rattle.transport.specs.Number.{numberOf}
 use Rattle.transport.specs.Response.{receiveReadOf, responseIn}
 use Rattle.address.specs.Address.{addressOf}
-use Rattle.transport_receiver.specs.Counters
-use Rattle.transport_receiver.specs.Types
-use Rattle.transport_receiver.specs.Types.{counterOf}
-use Rattle.transport_receiver.specs.State.{State, Frame, stateOf, commandKey, commandIn}
+use Rattle.handlers.specs.Counters
+use Rattle.handlers.specs.Types
+use Rattle.handlers.specs.Types.{counterOf}
+use Rattle.handlers.specs.Stored.{commandKey}
+use Rattle.handlers.specs.Receive.{receiveRequestIn, receiveResponseIn, goodIn}
+use Rattle.handlers.specs.Command.{isLastIn, noteIn, keepIn, commandRequestIn, commandResponseIn}
+use Rattle.handlers.specs.Plain.{identityIn, enumerationEndIn, versionIn, enumerationStartIn, countIn, untabledIn}
+use Rattle.transport_receiver.specs.State.{State, Frame, stateOf, commandIn}
 use Rattle.transport_receiver.specs.Step.{Result, stepOf, handledOf, isLast, overLimit}
 use Rattle.transport_receiver.specs.Handed.{told}
-use Rattle.transport_receiver.specs.Lent.{receiveRequestIn, identityIn, enumerationEndIn, versionIn, enumerationStartIn, isLastIn, noteIn, keepIn, commandRequestIn, commandResponseIn, receiveResponseIn, goodIn, notedOf, seatedOf, afterAsked, afterCounted, afterRequested, afterAnswered, afterReceived, countIn, untabledIn, handledIn, stepIn}
+use Rattle.transport_receiver.specs.Lent.{notedOf, seatedOf, afterAsked, afterCounted, afterRequested, afterAnswered, afterReceived, handledIn, stepIn}
 use Rattle.transport_receiver.specs.declared.Receiver.{Receiver}
 use Rattle.transport_receiver.proofs.Pool.{overLimit-places, stored-commands}
 use Rattle.laws.proofs.Cases.{by}
@@ -112,18 +116,19 @@ module _ (r : Receiver) (from : Bool) (g : ℕ) (p : List ℕ) where
   command-request : Sized r → overOf (r .ckeys) (r .clengths) 245 ≡ false → length p ≤ 250 → told (frame from g Types.command-request p) (afterRequested r (commandRequestIn (notedOf r) (seatedOf r) from g p)) ≡ handledOf (stateOf r) (frame from g Types.command-request p)
   unfolding handledOf commandRequestIn noteIn keepIn stateOf
   command-request z within few =
+      let fits = le-ltb 250 (length p) few in
       let hs = hasRoom-places (λ i. getD (r .sequences) i 0) (r .skeys) g in
       let hc = hasRoom-places (commandIn (r .ctypes) (r .clengths) (r .cpayloads)) (r .ckeys) key in
       let kept-command : ltb (seatOf (r .ckeys) (suc key)) 64 ≡ true → _ = λ b. stored-commands (r .ckeys) (r .ctypes) (r .clengths) (r .cpayloads) key (getD p 3 0) (drop 5 p) (z .ctypes) (z .clengths) (z .cpayloads) (z .ckeys) within (ltb-true _ _ b) (omega (arith, length-drop 5 p)) in
-      by from (λ e. rw e)
-      (λ e. by (ltb (length p) 5) (λ l. rw (e, l))
+      by from (λ e. rw (fits, e))
+      (λ e. by (ltb (length p) 5) (λ l. rw (fits, e, l))
       (λ l. by (ltb q 32)
       (λ a. by (ltb (seatOf (r .ckeys) (suc key)) 64)
       (λ b. by (isLastIn (r .skeys) (r .sequences) q (suc g) (getD p 4 0))
-      (λ t. rw (e, l, hs, z .skeys, a, hc, z .ckeys, b, last (r .skeys) (r .sequences) g (getD p 4 0) (rw (z .skeys) (ltb-true _ _ a)), t) (rw (← stored-again (r .skeys) (r .sequences) g (getD p 4 0) (z .sequences ∙ sym (z .skeys)) (last-parts (r .skeys) (r .sequences) g (getD p 4 0) t .0) (last-parts (r .skeys) (r .sequences) g (getD p 4 0) t .1) (rw (z .skeys) (ltb-true _ _ a)), kept-command b)))
-      (λ t. rw (e, l, hs, z .skeys, a, hc, z .ckeys, b, last (r .skeys) (r .sequences) g (getD p 4 0) (rw (z .skeys) (ltb-true _ _ a)), t) (rw (stored-numbers (r .skeys) (r .sequences) g (getD p 4 0) (z .sequences ∙ sym (z .skeys)) (rw (z .skeys) (ltb-true _ _ a)), kept-command b))))
-      (λ b. rw (e, l, hs, z .skeys, a, hc, z .ckeys, b)))
-      (λ a. rw (e, l, hs, z .skeys, a))))
+      (λ t. rw (fits, e, l, hs, z .skeys, a, hc, z .ckeys, b, last (r .skeys) (r .sequences) g (getD p 4 0) (rw (z .skeys) (ltb-true _ _ a)), t) (rw (← stored-again (r .skeys) (r .sequences) g (getD p 4 0) (z .sequences ∙ sym (z .skeys)) (last-parts (r .skeys) (r .sequences) g (getD p 4 0) t .0) (last-parts (r .skeys) (r .sequences) g (getD p 4 0) t .1) (rw (z .skeys) (ltb-true _ _ a)), kept-command b)))
+      (λ t. rw (fits, e, l, hs, z .skeys, a, hc, z .ckeys, b, last (r .skeys) (r .sequences) g (getD p 4 0) (rw (z .skeys) (ltb-true _ _ a)), t) (rw (stored-numbers (r .skeys) (r .sequences) g (getD p 4 0) (z .sequences ∙ sym (z .skeys)) (rw (z .skeys) (ltb-true _ _ a)), kept-command b))))
+      (λ b. rw (fits, e, l, hs, z .skeys, a, hc, z .ckeys, b)))
+      (λ a. rw (fits, e, l, hs, z .skeys, a))))
 
   command-response : Sized r → told (frame from g Types.command-response p) (afterAnswered r (commandResponseIn (r .ckeys) (r .ctypes) (r .clengths) (r .counters) from g p)) ≡ handledOf (stateOf r) (frame from g Types.command-response p)
   unfolding handledOf commandResponseIn stateOf

@@ -13,7 +13,7 @@ use Rattle.transport.specs.Status.{acceptedOf, neededOf}
 use Rattle.transport.specs.Number.{numberOf}
 use Rattle.tables.specs.Places.{Place, free, held, holds, holder, isHeld, placesOf, hasRoom, stored, removed, valueIn, valueAt, Distinct, inserted, deleted}
 use Rattle.tables.proofs.Maps.{valueAt-stored, valueAt-removed, valueAt-unheld, valueAt-isHeld, holder-holds}
-use Rattle.transport_receiver.specs.Types
+use Rattle.handlers.specs.Types
 use Rattle.transport_receiver.specs.State.{State, Frame, Command, stateOf, fresh}
 use Rattle.transport_receiver.specs.Step.{Event, Outcome, refused, event, Result, Row, rowsOfAny, rowsOfType, judged, accepted, stepOf, overLimit, keyOf, statusOf, numberIn, sequenceOf, requestOf}
 use Rattle.transport_receiver.specs.Reached.{AllDistinct}

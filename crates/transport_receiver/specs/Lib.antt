@@ -1,5 +1,3 @@
-pub mod Counters
-pub mod Types
 pub mod State
 pub mod Lent
 pub mod Step

@@ -3,7 +3,7 @@ use mathlib.Core.Path.{_≡_}
 use Prim.Native.Nat.{ℕ}
 use mathlib.Core.Bool.{Bool, true, false}
 use Rattle.tables.specs.Places.{Distinct}
-use Rattle.transport_receiver.specs.Types
+use Rattle.handlers.specs.Types
 use Rattle.transport_receiver.specs.State.{State, Frame, stateOf, fresh}
 use Rattle.transport_receiver.specs.Step.{stepOf, keyOf, Outcome, refused, short, silent, event}
 

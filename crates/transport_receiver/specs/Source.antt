@@ -11,8 +11,8 @@ use Rattle.laws.specs.Bytes.{be16At}
 use Rattle.tables.specs.Places.{valueAt, inserted, deleted}
 use Rattle.transport.specs.Status.{acceptedOf, neededOf}
 use Rattle.transport.specs.Number.{numberOf}
-use Rattle.transport_receiver.specs.Types
-use Rattle.transport_receiver.specs.Types.{isOneOf}
+use Rattle.handlers.specs.Types
+use Rattle.handlers.specs.Types.{isOneOf}
 use Rattle.transport_receiver.specs.State.{State, Frame, Command, stateOf, fresh}
 use Rattle.transport_receiver.specs.Step.{stepOf, Outcome, refused, short, silent, event, statusOf, sequenceOf, keyOf, requestOf}
 

@@ -1,5 +1,5 @@
 -- The transport receiver's state in 01's words, and what its arrays mean. Assumes nothing.
-use Prim.Native.Nat.{ℕ, _+_, _*_}
+use Prim.Native.Nat.{ℕ, _*_}
 use mathlib.Core.Bool.{Bool}
 use mathlib.Core.List.{List}
 use lib.ListN.{getD, take, drop, replicate}
@@ -8,10 +8,6 @@ use Rattle.address.specs.declared.Address.{Address}
 use Rattle.link.specs.declared.Type as link
 use Rattle.tables.specs.Places.{Place, placesOf}
 use Rattle.transport_receiver.specs.declared.Receiver.{Receiver}
-
--- 01, "Transport": a command request is kept under gateway and sequence: both as one number
-abbrev pub commandKey : ℕ → ℕ → ℕ
-commandKey gateway sequence = gateway * 256 + sequence
 
 -- a waiting command: the request's packet type, its payload's length, its payload
 pub record Command : Type 0 where

@@ -9,15 +9,15 @@ use Rattle.laws.specs.Bytes.{be16At}
 use Rattle.address.specs.Address.{idLimit, gatewayOf, isFrom, addressOf}
 use Rattle.link.specs.Wire.{payloadLimit}
 use Rattle.utf8.specs.Scan.{isText}
-use Rattle.network.specs.Split.{tallyOf}
 use Rattle.transport.specs.Status.{acceptedOf, neededOf, slotCounterAt}
 use Rattle.transport.specs.Number.{numberOf}
 use Rattle.tables.specs.Places.{Place, free, held, isHeld, hasRoom, stored, removed, valueAt}
-use Rattle.transport_receiver.specs.Counters
-use Rattle.transport_receiver.specs.Counters.{raise, add}
-use Rattle.transport_receiver.specs.Types
-use Rattle.transport_receiver.specs.Types.{isOneOf, isNamed, invalidOf, counterOf}
-use Rattle.transport_receiver.specs.State.{Command, State, Frame, commandKey, roomOfCommand}
+use Rattle.handlers.specs.Counters
+use Rattle.handlers.specs.Counters.{raise, countPackets}
+use Rattle.handlers.specs.Types
+use Rattle.handlers.specs.Types.{isOneOf, isNamed, invalidOf, counterOf}
+use Rattle.handlers.specs.Stored.{commandKey, repeats}
+use Rattle.transport_receiver.specs.State.{Command, State, Frame, roomOfCommand}
 
 -- 01, "Event record": what an event says; its gateway comes first
 pub data Event : Type 0 where
@@ -130,15 +130,6 @@ refuse s r = record { outcome = r .outcome; state = counting s (raiseAny (r .cou
 abbrev pub numberIn : Option ℕ → ℕ
 numberIn none = 0
 numberIn (some n) = n
-
--- Added: the slot event carries a repeat mark, set when the response's number equals the one stored before it
-abbrev pub repeats : ℕ → ℕ → List ℕ → Bool
-repeats number before area = eqb number before
-
--- both packet counters are raised by the transport step itself, for the whole area, walked or not
-abbrev pub countPackets : List ℕ → List ℕ → List ℕ
-countPackets area cs =
-    add (tallyOf area .short) Counters.receive-packet-too-short (add (tallyOf area .packets) Counters.receive-packets cs)
 
 -- a good receive response: the number replaces the one stored before
 abbrev pub received : State → Frame → ℕ → List ℕ → Result

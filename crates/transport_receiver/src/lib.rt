@@ -1,30 +1,22 @@
 // The transport receiver (transport/receiver.rs): what a sound frame means.
 // The state is three tables of fixed size and 33 counters, held as arrays of numbers; specs/State.antt says what the arrays mean.
+// What each frame type does to them is in crates/handlers.
 // `step_in` is lent the arrays; `Receiver::step` is the same by value.
 ghost use mathlib.Core.Path.{_≡_};
-ghost use Prim.Native.Nat.{_≤_};
-ghost use lib.ListN.{length};
 ghost use Rattle.address.specs.Address.{isFrom, gatewayOf};
 ghost use Rattle.transport_receiver.specs.State.{given, frameOf, stateOf, fresh};
 ghost use Rattle.transport_receiver.specs.Step.{stepOf};
 ghost use Rattle.transport_receiver.specs.Handed.{told};
 ghost use Rattle.transport_receiver.specs.Lent.{arrays, stepped, handledIn, stepIn, requestPayload, resetIn};
 use address::Address;
-use address::GatewayID;
-use command::command_request;
-use command::command_response;
+pub use handlers::Answer;
+use handlers::command::command_request;
+use handlers::command::command_response;
+pub use handlers::counters;
+use handlers::plain::untabled;
+use handlers::receive::receive_request;
+use handlers::receive::receive_response;
 use link::Type;
-use plain::untabled;
-use receive::receive_request;
-use receive::receive_response;
-use slot_counter::SlotCounter;
-use transport::PacketNumber;
-
-mod command;
-pub mod counters;
-mod entries;
-mod plain;
-mod receive;
 
 // The numbers of the types that touch a table.
 const RECEIVE_REQUEST: u16 = Type::RECEIVE_REQUEST.0;
@@ -34,70 +26,6 @@ const RECEIVE_RESPONSE: u16 = Type::RECEIVE_RESPONSE.0;
 const COMMAND_REQUEST: u16 = Type::COMMAND_REQUEST.0;
 
 const COMMAND_RESPONSE: u16 = Type::COMMAND_RESPONSE.0;
-
-// What a step answers: first the refusals of 01's table, then what an accepted frame says.
-pub enum Answer {
-    // 12: a held command's length is over its limit
-    OverLimit,
-    // 13
-    InvalidGatewayID,
-    // 20
-    WrongDirection,
-    // 21
-    WrongLength,
-    // 22
-    UnknownStatusType,
-    // 23, with the length needed
-    TooShort {
-        needed: usize,
-    },
-    // 24
-    UnknownGateway,
-    // 25
-    NumbersFull,
-    // 26
-    SequencesFull,
-    // 27
-    CommandsFull,
-    // 28
-    NamesFrom,
-    // 29
-    InvalidVersion,
-    // 30
-    NoRequest,
-    // 31
-    UnhandledType,
-    // 32
-    PayloadTooLong,
-    // Accepted, no event: a type that is counted and no more, and a command request that is kept.
-    Counted,
-    CommandKept,
-    // Enumeration started, using the gateway ID named.
-    EnumerationStarted {
-        gateway: GatewayID,
-    },
-    // A gateway's address: the first 8 bytes of the payload.
-    IdentityObserved,
-    // A gateway's version: the payload.
-    VersionObserved,
-    EnumerationEnded,
-    SlotCounterCaptured,
-    // The packet number, the slot counter, whether the number repeats the one stored before; packets stand in the payload from `area` on.
-    SlotCounterObserved {
-        number: PacketNumber,
-        slot: SlotCounter,
-        repeat: bool,
-        area: usize,
-    },
-    // The request's place in the table (`request_payload` gives its bytes), its packet type and payload length; the response's packet type.
-    // The response's payload stands in the payload from 5 on.
-    CommandExecuted {
-        place: usize,
-        request: u8,
-        length: u8,
-        response: u8,
-    },
-}
 
 // The state: three tables and the counters, as arrays of numbers (`stateOf` of specs/State.antt says what they mean). A key of 0 is a free place.
 pub struct Receiver {
@@ -138,7 +66,6 @@ fn handled(
     kind: u16,
     payload: &[u8],
 ) -> Answer
-    requires { ⌜ length (now payload) ≤ 250 ⌝ }
     ensures { λ r. ⌜ stepped r (arrays (now (nkeys .exit)) (now (numbers .exit)) (now (skeys .exit)) (now (sequences .exit)) (now (ckeys .exit)) (now (ctypes .exit)) (now (clengths .exit)) (now (cpayloads .exit)) (now (counters .exit))) ≡ handledIn (arrays (now (nkeys .entry)) (now (numbers .entry)) (now (skeys .entry)) (now (sequences .entry)) (now (ckeys .entry)) (now (ctypes .entry)) (now (clengths .entry)) (now (cpayloads .entry)) (now (counters .entry))) (given from gateway kind (now (payload .entry))) ⌝ }
 {
     if kind == RECEIVE_REQUEST {

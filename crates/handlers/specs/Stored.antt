@@ -1,0 +1,13 @@
+-- What is stored of commands and packet numbers, and asked again. Assumes nothing.
+use Prim.Native.Nat.{ℕ, _+_, _*_}
+use mathlib.Core.Bool.{Bool}
+use mathlib.Core.List.{List}
+use lib.Dec.{eqb}
+
+-- 01, "Transport": a command request is kept under gateway and sequence: both as one number
+abbrev pub commandKey : ℕ → ℕ → ℕ
+commandKey gateway sequence = gateway * 256 + sequence
+
+-- Added: the slot event carries a repeat mark, set when the response's number equals the one stored before it
+abbrev pub repeats : ℕ → ℕ → List ℕ → Bool
+repeats number before area = eqb number before
