@@ -1,7 +1,6 @@
-// Counters raised, keys of places, and numbers of two bytes.
+// Counters raised, and keys of places.
 ghost use mathlib.Core.Path.{_≡_};
 ghost use Prim.Native.Nat.{suc, _<_};
-ghost use Rattle.laws.specs.Bytes.{of16};
 ghost use Rattle.handlers.specs.Counters.{raise, add};
 ghost use Rattle.handlers.specs.Stored.{commandKey};
 
@@ -31,10 +30,4 @@ pub fn command_key(gateway: u16, sequence: u8) -> u32
     ensures { λ r. ⌜ r ≡ suc (commandKey gateway sequence) ⌝ }
 {
     (gateway as u32) * 256 + (sequence as u32) + 1
-}
-
-pub fn number(hi: u8, lo: u8) -> u16
-    ensures { λ r. ⌜ r ≡ of16 hi lo ⌝ }
-{
-    (hi as u16) * 256 + (lo as u16)
 }

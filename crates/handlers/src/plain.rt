@@ -5,10 +5,10 @@ ghost use Rattle.handlers.specs.Types.{counterOf};
 ghost use Rattle.handlers.specs.Plain.{counted, enumerationStartIn, identityIn, versionIn, enumerationEndIn, countIn, untabledIn};
 use crate::Answer;
 use crate::counters::*;
-use crate::entries::number;
 use crate::entries::raise;
 use address::GatewayID;
 use link::Type;
+use words::be16;
 
 // The numbers of the types: a `match` goes by a number.
 const PING_REQUEST: u16 = Type::PING_REQUEST.0;
@@ -59,7 +59,7 @@ fn enumeration_start_request(
         raise(counters, INVALID_ENUMERATION_START_REQUEST);
         return Answer::WrongLength;
     }
-    let named = number(payload[4], payload[5]);
+    let named = be16(payload[4], payload[5]);
     if named < 0x8000 {
         raise(counters, ENUMERATION_START_REQUESTS);
         return Answer::EnumerationStarted {

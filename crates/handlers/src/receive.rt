@@ -10,11 +10,11 @@ use crate::Answer;
 use crate::counters::*;
 use crate::entries::add;
 use crate::entries::gateway_key;
-use crate::entries::number;
 use crate::entries::raise;
 use transport::PacketNumber;
 use transport::ReceiveRead;
 use transport::ReceiveResponse;
+use words::be16;
 
 // A receive request: its number is stored for the gateway. Refused by 20, 21, 25, in this order.
 pub fn receive_request(
@@ -40,7 +40,7 @@ pub fn receive_request(
     if i < 32 {
         raise(counters, RECEIVE_REQUESTS);
         nkeys[i] = key;
-        numbers[i] = number(payload[2], payload[3]);
+        numbers[i] = be16(payload[2], payload[3]);
         return Answer::SlotCounterCaptured;
     }
     Answer::NumbersFull

@@ -1,9 +1,9 @@
 // The PV network layer (pv/network.rs): received packets, and how a packet area is split into them.
 ghost use mathlib.Core.Path.{_≡_};
 ghost use Prim.Native.Nat.{_+_, _%_};
-ghost use Rattle.laws.specs.Bytes.{of16};
 ghost use Rattle.network.specs.Split.{foundAt, tallyOf};
 ghost use Rattle.network.specs.Nodes.{nodeOf, addressOf, successorOf, headerOf};
+use words::be16;
 
 mod received_packets;
 
@@ -125,13 +125,6 @@ pub struct ReceivedPacketHeader {
 pub enum HeaderRead {
     Header(ReceivedPacketHeader),
     HeaderTooShort,
-}
-
-// Two bytes as a number, the higher first.
-fn be16(hi: u8, lo: u8) -> u16
-    ensures { λ r. ⌜ r ≡ of16 hi lo ⌝ }
-{
-    (hi as u16) * 256 + (lo as u16)
 }
 
 impl ReceivedPacketHeader {

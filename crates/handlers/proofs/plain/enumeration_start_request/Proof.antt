@@ -26,28 +26,28 @@ returns-3 : tie.Need-returns-3
 unfolding enumerationStartIn
 returns-3 c = rw (c .raise3 .ensures, c .before .before .before .before .if1 .left, eq-eqb _ _ (c .before .before .before .if2 .left), ne-eqb _ _ (c .before .before .if3 .taken))
 
-shared-slice-read-number : tie.Need-shared-slice-read-number
-shared-slice-read-number c = search needs
+shared-slice-read-be16 : tie.Need-shared-slice-read-be16
+shared-slice-read-be16 c = search needs
 
-shared-slice-read-number-2 : tie.Need-shared-slice-read-number-2
-shared-slice-read-number-2 c = search needs
+shared-slice-read-be16-2 : tie.Need-shared-slice-read-be16-2
+shared-slice-read-be16-2 c = search needs
 
-number-requires : tie.Need-number-requires
-number-requires c κs = search needs
+be16-requires : tie.Need-be16-requires
+be16-requires c κs = search needs
 
 raise-requires-4 : tie.Need-raise-requires-4
 raise-requires-4 c κs = search needs
 
 returns-4 : tie.Need-returns-4
 unfolding enumerationStartIn
-returns-4 c = rw (c .raise4 .ensures, c .before .before .before .before .before .before .before .before .if1 .left, eq-eqb _ _ (c .before .before .before .before .before .before .before .if2 .left), eq-eqb _ _ (c .before .before .before .before .before .before .if3 .left), ← c .before .before .before .number .ensures, lt-ltb _ _ (c .before .before .if4 .taken))
+returns-4 c = rw (c .raise4 .ensures, c .before .before .before .before .before .before .before .before .if1 .left, eq-eqb _ _ (c .before .before .before .before .before .before .before .if2 .left), eq-eqb _ _ (c .before .before .before .before .before .before .if3 .left), ← c .before .before .before .be16 .ensures, lt-ltb _ _ (c .before .before .if4 .taken))
 
 raise-requires-5 : tie.Need-raise-requires-5
 raise-requires-5 c κs = search needs
 
 returns-5 : tie.Need-returns-5
 unfolding enumerationStartIn
-returns-5 c = rw (c .raise5 .ensures, c .before .before .before .before .before .before .before .before .if1 .left, eq-eqb _ _ (c .before .before .before .before .before .before .before .if2 .left), eq-eqb _ _ (c .before .before .before .before .before .before .if3 .left), ← c .before .before .before .number .ensures, le-ltb _ _ (c .before .before .if4 .left))
+returns-5 c = rw (c .raise5 .ensures, c .before .before .before .before .before .before .before .before .if1 .left, eq-eqb _ _ (c .before .before .before .before .before .before .before .if2 .left), eq-eqb _ _ (c .before .before .before .before .before .before .if3 .left), ← c .before .before .before .be16 .ensures, le-ltb _ _ (c .before .before .if4 .left))
 
 pub enumeration-start-request-spec : {M : Type 1} → statement M
 enumeration-start-request-spec =
@@ -59,9 +59,9 @@ enumeration-start-request-spec =
     returns-2
     raise-requires-3
     returns-3
-    shared-slice-read-number
-    shared-slice-read-number-2
-    number-requires
+    shared-slice-read-be16
+    shared-slice-read-be16-2
+    be16-requires
     raise-requires-4
     returns-4
     raise-requires-5

@@ -34,14 +34,14 @@ mul-nkeys c = search needs
 element-write-nkeys : tie.Need-element-write-nkeys
 element-write-nkeys c = search needs
 
-shared-slice-read-number : tie.Need-shared-slice-read-number
-shared-slice-read-number c = search needs
+shared-slice-read-be16 : tie.Need-shared-slice-read-be16
+shared-slice-read-be16 c = search needs
 
-shared-slice-read-number-2 : tie.Need-shared-slice-read-number-2
-shared-slice-read-number-2 c = search needs
+shared-slice-read-be16-2 : tie.Need-shared-slice-read-be16-2
+shared-slice-read-be16-2 c = search needs
 
-number-requires : tie.Need-number-requires
-number-requires c κs = search needs
+be16-requires : tie.Need-be16-requires
+be16-requires c κs = search needs
 
 mul-numbers : tie.Need-mul-numbers
 mul-numbers c = search needs
@@ -51,7 +51,7 @@ element-write-numbers c = search needs
 
 returns-3 : tie.Need-returns-3
 unfolding receiveRequestIn
-returns-3 c = rw (c .before .before .before .before .before .before .before .before .before .before .before .if1 .left, eq-eqb _ _ (c .before .before .before .before .before .before .before .before .before .before .if2 .left), ← c .before .before .before .before .before .before .before .before .before .gateway-key .ensures, ← c .before .before .before .before .before .before .seat .ensures, lt-ltb _ _ (c .before .before .before .before .before .if3 .taken), c .number .ensures, c .before .before .before .raise3 .ensures)
+returns-3 c = rw (c .before .before .before .before .before .before .before .before .before .before .before .if1 .left, eq-eqb _ _ (c .before .before .before .before .before .before .before .before .before .before .if2 .left), ← c .before .before .before .before .before .before .before .before .before .gateway-key .ensures, ← c .before .before .before .before .before .before .seat .ensures, lt-ltb _ _ (c .before .before .before .before .before .if3 .taken), c .be16 .ensures, c .before .before .before .raise3 .ensures)
 
 returns-4 : tie.Need-returns-4
 unfolding receiveRequestIn
@@ -70,9 +70,9 @@ receive-request-spec =
     raise-requires-3
     mul-nkeys
     element-write-nkeys
-    shared-slice-read-number
-    shared-slice-read-number-2
-    number-requires
+    shared-slice-read-be16
+    shared-slice-read-be16-2
+    be16-requires
     mul-numbers
     element-write-numbers
     returns-3
