@@ -10,11 +10,11 @@ use native.Mathlib.Omega.{arith}
 use lib.Dec.{eqb, ltb}
 use lib.ListN.{length, getD, set, take, drop, length-set}
 use lib.Seq.{paste}
-use borrow.Author.Tests.{eqb-true, not-true, lt-ltb, ne-eqb}
+use borrow.Author.Tests.{eqb-true, not-true, lt-ltb, eq-eqb, ne-eqb}
 use Rattle.runs.specs.Runs.{isOf, lead, All, laid}
-use Rattle.runs.proofs.Laws.{run-placed, run-all, copy-room, copy-placed, copy-all, length-laid, laid-paste}
+use Rattle.runs.proofs.Laws.{run-placed, run-all, run-stops, copy-room, copy-placed, copy-all, length-laid, laid-paste}
 use Rattle.runs.specs.declared.Sort.the-variants as sort
-use Rattle.laws.proofs.Cases.{never}
+use Rattle.laws.proofs.Cases.{by, never}
 use Rattle.link_receive.specs.declared.State.{State}
 use Rattle.link_receive.specs.declared.State.the-variants.{Idle, Noise, StartOfFrame, Frame, FrameEscape, Giant, GiantEscape}
 use Rattle.link_receive.specs.declared.Tally.the-variants as tally
@@ -24,7 +24,7 @@ use Rattle.link_receive.specs.declared.Move.the-variants.{To, Push, Count}
 use Rattle.link_receive.specs.Step.{limit, outsideOf, turnOf}
 use Rattle.link_feed.specs.Feed.{feedFrom}
 use Rattle.link_feed.specs.declared.Place.{Place}
-use Rattle.link_feed.specs.Advance.{madeOf, Ahead, Skips, Skipped}
+use Rattle.link_feed.specs.Advance.{madeOf, halfAt, Ahead, Skipped}
 use Rattle.link_receive.proofs.Turns.{tailOf-other}
 use Rattle.link_receive.proofs.Steps.{stepOf-within}
 use Rattle.link_feed.proofs.Feeds.{feedFrom-more}
@@ -67,14 +67,60 @@ turnOf-pair : (len b : ℕ) → b ≡ 0x7e → turnOf Frame len b ≡ To FrameEs
 unfolding turnOf
 turnOf-pair len b e = rw e
 
--- in the tail: 7e begins a pair, and one that neither opens nor closes leads back
-turnOf-tail-pair : (len b : ℕ) → b ≡ 0x7e → turnOf Giant len b ≡ To GiantEscape
-unfolding turnOf
-turnOf-tail-pair len b e = rw e
+-- where a tail stands, by whether it is within a pair
+abbrev tailState : Bool → State
+tailState true = GiantEscape
+tailState false = Giant
 
-turnOf-tail-other : (len b : ℕ) → (b ≡ 0x07 → ⊥) → (b ≡ 0x08 → ⊥) → turnOf GiantEscape len b ≡ To Giant
-unfolding turnOf
-turnOf-tail-other len b h g = sym (tailOf-other b h g)
+-- a byte that with a 7e before it neither opens nor closes a frame ends a pair, or begins one, or is skipped alone
+turnOf-calm : (h : Bool) (len b : ℕ) → isOf sort.Calm b ≡ true → turnOf (tailState h) len b ≡ To (tailState (not h && eqb b 0x7e))
+unfolding isOf turnOf
+turnOf-calm true len b e = sym (tailOf-other b (λ x. never (rw x at e)) (λ x. never (rw x at e)))
+turnOf-calm false len b e = by (eqb b 0x7e) (λ x. rw x) (λ x. rw x)
+
+-- 07 and 08 are no 7e
+not-calm : (b : ℕ) → isOf sort.Calm b ≡ false → b ≡ 0x7e → ⊥
+unfolding isOf
+not-calm b e x = never (sym (rw x at e))
+
+-- the pairs of a row of 7e: one 7e more turns it over, and any other byte leaves none begun
+not-first : (x y : Bool) → (not x && y) ≡ true → x ≡ false
+not-first true y e = never e
+not-first false y e = refl
+
+and-true : (x : Bool) → (x && true) ≡ x
+and-true true = refl
+and-true false = refl
+
+and-false : (x : Bool) → (x && false) ≡ false
+and-false true = refl
+and-false false = refl
+
+turned-again : (odd x : Bool) → cond odd (not (not x)) (not x) ≡ cond (not odd) (not x) x
+turned-again true true = refl
+turned-again true false = refl
+turned-again false x = refl
+
+pub turned-none : (odd x : Bool) → x ≡ false → cond odd (not x) x ≡ odd
+turned-none true x e = rw e
+turned-none false x e = e
+
+module _ (s : List ℕ) (i q : ℕ) (h : i < q) where
+  -- the byte before q
+  half-before : halfAt s i (q - i) ≡ (not (halfAt s i (q - 1 - i)) && eqb (getD s (q - 1) 0) 0x7e)
+  half-before =
+      let n : q - i ≡ suc (q - 1 - i) = omega arith in
+      let m : i + (q - 1 - i) ≡ q - 1 = omega arith in
+      ap (halfAt s i) n ∙ ap (λ (x : ℕ). not (halfAt s i (q - 1 - i)) && eqb (getD s x 0) 0x7e) m
+
+  pub half-turned : (odd : Bool) → getD s (q - 1) 0 ≡ 0x7e → cond odd (not (halfAt s i (q - i))) (halfAt s i (q - i)) ≡ cond (not odd) (not (halfAt s i (q - 1 - i))) (halfAt s i (q - 1 - i))
+  half-turned odd e =
+      let x = halfAt s i (q - 1 - i) in
+      let f : halfAt s i (q - i) ≡ not x = half-before ∙ ap (λ (t : Bool). not x && t) (eq-eqb _ _ e) ∙ and-true (not x) in
+      ap (λ (t : Bool). cond odd (not t) t) f ∙ turned-again odd x
+
+  pub half-none : (getD s (q - 1) 0 ≡ 0x7e → ⊥) → halfAt s i (q - i) ≡ false
+  half-none e = half-before ∙ ap (λ (t : Bool). not (halfAt s i (q - 1 - i)) && t) (ne-eqb _ _ e) ∙ and-false (not (halfAt s i (q - 1 - i)))
 
 abbrev pub placeOf : ℕ → ℕ → Place
 placeOf len i = record { len = len; at = i }
@@ -104,20 +150,26 @@ module _ (check : List ℕ → ℕ) (s : List ℕ) where
       ∙ feedFrom-more check r r s (i + m) (omega (arith, next i m)) (stepOf-within check r (getD s (i + m) 0) (To state) h (turns (getD s (i + m) 0) (a m (less m))))
       ∙ feedFrom-stays state p len turns h body t i m (omega (arith, next i m)) (λ k u. a k (more k m u))
 
-  -- what the tail has skipped: nothing yet, as much more as a part of it skips, a run more, a byte more, a pair more
+  -- bytes of a tail that do not end it
+  feedFrom-tail :
+      (body : List ℕ) (len : ℕ) (t : Tallies) → len ≤ limit → (i m : ℕ) → i + m ≤ length s → All (isOf sort.Calm) s i m →
+      feedFrom check (madeOf (tailState (halfAt s i m)) body len t) (drop (i + m) s) (i + m) ≡ feedFrom check (madeOf Giant body len t) (drop i s) i
+  feedFrom-tail body len t h i zero g a = ap (λ (n : ℕ). feedFrom check (madeOf Giant body len t) (drop n s) n) (add-zero i)
+  feedFrom-tail body len t h i (suc m) g a =
+      let x = halfAt s i m in
+      let b = getD s (i + m) 0 in
+      let r = madeOf (tailState x) body len t in
+      let q = madeOf (tailState (not x && eqb b 0x7e)) body len t in
+      ap (λ (n : ℕ). feedFrom check q (drop n s) n) (next i m)
+      ∙ feedFrom-more check r q s (i + m) (omega (arith, next i m)) (stepOf-within check r b (To (tailState (not x && eqb b 0x7e))) h (turnOf-calm x len b (a m (less m))))
+      ∙ feedFrom-tail body len t h i m (omega (arith, next i m)) (λ k u. a k (more k m u))
+
+  -- what the tail has skipped: nothing yet, a byte more, as much more as does not end it
   pub skipped-none : (i : ℕ) → i ≤ length s → Skipped check s i i
   skipped-none i h = record { placed = h; further = omega arith; same = λ body len t l. refl }
 
   module _ (i₀ i : ℕ) (k : Skipped check s i₀ i) where
-    pub skipped-more : (j : ℕ) → Skipped check s i j → Skipped check s i₀ j
-    skipped-more j m =
-        record {
-          placed = m .placed;
-          further = omega (arith, k .further, m .further);
-          same = λ body len t l. m .same body len t l ∙ k .same body len t l;
-        }
-
-    pub skipped-run : (m : ℕ) → i + m ≤ length s → All (isOf sort.Raw) s i m → Skipped check s i₀ (i + m)
+    skipped-run : (m : ℕ) → i + m ≤ length s → All (isOf sort.Raw) s i m → Skipped check s i₀ (i + m)
     skipped-run m h a =
         record {
           placed = h;
@@ -125,27 +177,44 @@ module _ (check : List ℕ → ℕ) (s : List ℕ) where
           same = λ body len t l. feedFrom-stays Giant (isOf sort.Raw) len (turnOf-tail len) l body t i m h a ∙ k .same body len t l;
         }
 
-    pub skipped-lead : (m : ℕ) → m ≡ lead (isOf sort.Raw) (drop i s) → Skipped check s i₀ (i + m)
-    skipped-lead m e = skipped-run m (run-placed (isOf sort.Raw) s i m (k .placed) e) (run-all (isOf sort.Raw) s i m (k .placed) e)
-
-    pub skipped-byte : i < length s → (getD s i 0 ≡ 0x7e → ⊥) → Skipped check s i₀ (i + 1)
+    skipped-byte : i < length s → (getD s i 0 ≡ 0x7e → ⊥) → Skipped check s i₀ (i + 1)
     skipped-byte h e = skipped-run 1 (omega arith) (λ j u. let z : i + j ≡ i = omega arith in rw z (raw-other (getD s i 0) e))
 
-    pub skipped-pair : Skips s i → Skipped check s i₀ (i + 2)
-    skipped-pair p =
+    skipped-tail : (m : ℕ) → i + m ≤ length s → All (isOf sort.Calm) s i m → halfAt s i m ≡ false → Skipped check s i₀ (i + m)
+    skipped-tail m h a e =
         record {
-          placed = p .whole;
+          placed = h;
           further = omega (arith, k .further);
-          same =
-              λ body len t l.
-              let r = madeOf Giant body len t in
-              let q = madeOf GiantEscape body len t in
-              let w : i + 2 ≤ length s = p .whole in
-              ap (λ (n : ℕ). feedFrom check r (drop n s) n) (two i)
-              ∙ feedFrom-more check q r s (i + 1) (omega arith) (stepOf-within check q (getD s (i + 1) 0) (To Giant) l (turnOf-tail-other len (getD s (i + 1) 0) (p .no-opener) (p .no-closer)))
-              ∙ feedFrom-more check r q s i (omega arith) (stepOf-within check r (getD s i 0) (To GiantEscape) l (turnOf-tail-pair len (getD s i 0) (p .first)))
-              ∙ k .same body len t l;
+          same = λ body len t l. ap (λ (x : Bool). feedFrom check (madeOf (tailState x) body len t) (drop (i + m) s) (i + m)) (sym e) ∙ feedFrom-tail body len t l i m h a ∙ k .same body len t l;
         }
+
+    -- where a pair is begun, up to it
+    skipped-half : (m : ℕ) → i + m ≤ length s → All (isOf sort.Calm) s i m → halfAt s i m ≡ true → (1 ≤ m) × Skipped check s i₀ (i + m - 1)
+    skipped-half zero h a e = never e
+    skipped-half (suc m) h a e =
+        let n : i + m ≡ i + suc m - 1 = omega (arith, next i m) in
+        (omega arith, subst (λ (j : ℕ). Skipped check s i₀ j) n (skipped-tail m (omega (arith, next i m)) (λ j u. a j (more j m u)) (not-first (halfAt s i m) (eqb (getD s (i + m) 0) 0x7e) e)))
+
+    -- a run of bytes that do not end the tail: within the slice; up to the pair that it ends in, if it does; else as a whole, and with the byte behind it
+    module _ (m : ℕ) (e : m ≡ lead (isOf sort.Calm) (drop i s)) where
+      pub tail-placed : i + m ≤ length s
+      tail-placed = run-placed (isOf sort.Calm) s i m (k .placed) e
+
+      all : All (isOf sort.Calm) s i m
+      all = run-all (isOf sort.Calm) s i m (k .placed) e
+
+      behind : i + m - i ≡ m
+      behind = omega arith
+
+      pub tail-half : halfAt s i (i + m - i) ≡ true → (1 ≤ m) × Skipped check s i₀ (i + m - 1)
+      tail-half f = skipped-half m tail-placed all (ap (halfAt s i) (sym behind) ∙ f)
+
+      pub tail-whole : halfAt s i (i + m - i) ≡ false → Skipped check s i₀ (i + m)
+      tail-whole f = skipped-tail m tail-placed all (ap (halfAt s i) (sym behind) ∙ f)
+
+  module _ (i₀ i m : ℕ) (k : Skipped check s i₀ i) (e : m ≡ lead (isOf sort.Calm) (drop i s)) where
+    pub tail-past : halfAt s i (i + m - i) ≡ false → i + m < length s → Skipped check s i₀ (i + m + 1)
+    tail-past f h = skipped-byte i₀ (i + m) (tail-whole i₀ i k m e f) h (not-calm (getD s (i + m) 0) (run-stops (isOf sort.Calm) s i m (k .placed) e h))
 
   -- raw bytes of an open frame, as far as there is room
   pub feedFrom-units :

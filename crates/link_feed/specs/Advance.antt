@@ -1,9 +1,10 @@
 -- How feeding goes on over the parts of a receiver, its body and tallies lent; over any check. Assumes nothing.
 use mathlib.Core.Path.{_≡_}
-use Prim.Native.Nat.{ℕ, _+_, _≤_, _<_}
-use mathlib.Core.Bool.{Bool, true, false}
+use Prim.Native.Nat.{ℕ, zero, suc, _+_, _≤_, _<_}
+use mathlib.Core.Bool.{Bool, true, false, not, _&&_}
 use mathlib.Core.List.{List}
 use lib.ListN.{length, getD, drop}
+use lib.Dec.{eqb}
 use Rattle.link_receive.specs.declared.State.{State}
 use Rattle.link_receive.specs.declared.State.the-variants.{Idle, Frame, Giant}
 use Rattle.link_receive.specs.declared.Tallies.{Tallies}
@@ -46,12 +47,10 @@ pub record Stands (s : List ℕ) (i code : ℕ) : Type 0 where
   pub first : getD s i 0 ≡ 0x7e
   pub second : getD s (i + 1) 0 ≡ code
 
--- 7e and a byte that neither opens nor closes a frame stand at a place
-pub record Skips (s : List ℕ) (i : ℕ) : Type 0 where
-  pub whole : i + 2 ≤ length s
-  pub first : getD s i 0 ≡ 0x7e
-  pub no-opener : getD s (i + 1) 0 ≡ 0x07 → ⊥
-  pub no-closer : getD s (i + 1) 0 ≡ 0x08 → ⊥
+-- whether m bytes of a tail from i on end within a pair: 7e begins one, unless it ends one
+abbrev pub halfAt : List ℕ → ℕ → ℕ → Bool
+halfAt s i zero = false
+halfAt s i (suc m) = not (halfAt s i m) && eqb (getD s (i + m) 0) 0x7e
 
 -- what a pair that is found tells: 7e 07 outside a frame, or 7e 08 inside one
 abbrev pub Paired : State → List ℕ → ℕ → Pair → Type 0

@@ -12,6 +12,7 @@ use Rattle.laws.specs.Bytes.{Bytes}
 use Rattle.laws.proofs.Table.{and-left, and-right}
 use Rattle.laws.proofs.Cases.{by}
 use Rattle.words.specs.Words.{leOf}
+use Rattle.runs.specs.Marks.{betweenOf}
 
 -- a test passed by each number below a bound, from one that antt computes
 abbrev pub below : ℕ → (ℕ → Bool) → Bool
@@ -63,6 +64,10 @@ themselves : (bs : List ℕ) → leOf bs ≡ leOf (map (λ b. b) bs)
 themselves [] = refl
 themselves (b ∷ bs) = ap (λ (n : ℕ). n * 256 + b) (themselves bs)
 
+-- a byte's lower seven bits, and so many more
+abbrev pub raisedBy : ℕ → ℕ → ℕ
+raisedBy n b = bitAnd b 0x7f + n
+
 -- words of eight bytes each, all made of the same eight
 module _ (bs : List ℕ) (h : Bytes bs) (e : length bs ≡ 8) where
   abbrev pub Is : (ℕ → ℕ) → ℕ → Type 0
@@ -88,3 +93,16 @@ module _ (bs : List ℕ) (h : Bytes bs) (e : length bs ≡ 8) where
 
   pub is-same : (x : ℕ) (f g : ℕ → ℕ) → ((b : ℕ) → b < 256 → f b ≡ g b) → Is f x → Is g x
   is-same x f g q p = p ∙ alike f g q bs h
+
+  -- bytes whose lower seven bits lie between two bounds, each bound as what it is less than 80; what is done to a byte gives a byte at each step
+  pub is-between :
+      (w a b l m : ℕ) → Byte (raisedBy l) → Byte (raisedBy m) → Byte (λ x. bitXor (raisedBy m x) 0xff) → Byte (λ x. bitAnd (raisedBy l x) (bitXor (raisedBy m x) 0xff)) →
+      Is (λ x. x) w → a ≡ leOf (replicate 8 l) → b ≡ leOf (replicate 8 m) → Is (λ x. bitAnd (bitAnd (raisedBy l x) (bitXor (raisedBy m x) 0xff)) 0x80) (betweenOf w a b)
+  is-between w a b l m hf hg hx ha word ea eb =
+      let x = bitAnd w 0x7f7f7f7f7f7f7f7f in
+      let is-x : Is (λ b. bitAnd b 0x7f) x = is-and w 0x7f7f7f7f7f7f7f7f (λ b. b) (λ b. 0x7f) (λ b h. h) (gives-bytes (λ b. 0x7f) tt) word (is-all 0x7f7f7f7f7f7f7f7f 0x7f refl) in
+      let is-f : Is (raisedBy l) (x + a) = is-sum x a (λ b. bitAnd b 0x7f) (λ b. l) is-x (is-all a l ea) in
+      let is-g : Is (raisedBy m) (x + b) = is-sum x b (λ b. bitAnd b 0x7f) (λ b. m) is-x (is-all b m eb) in
+      let is-n : Is (λ b. bitXor (raisedBy m b) 0xff) (bitXor (x + b) 0xffffffffffffffff) = is-xor (x + b) 0xffffffffffffffff (raisedBy m) (λ b. 0xff) hg (gives-bytes (λ b. 0xff) tt) is-g (is-all 0xffffffffffffffff 0xff refl) in
+      let is-o : Is (λ b. bitAnd (raisedBy l b) (bitXor (raisedBy m b) 0xff)) (bitAnd (x + a) (bitXor (x + b) 0xffffffffffffffff)) = is-and (x + a) (bitXor (x + b) 0xffffffffffffffff) (raisedBy l) (λ b. bitXor (raisedBy m b) 0xff) hf hx is-f is-n in
+      is-and (bitAnd (x + a) (bitXor (x + b) 0xffffffffffffffff)) 0x8080808080808080 (λ b. bitAnd (raisedBy l b) (bitXor (raisedBy m b) 0xff)) (λ b. 0x80) ha (gives-bytes (λ b. 0x80) tt) is-o (is-all 0x8080808080808080 0x80 refl)

@@ -1,6 +1,6 @@
 -- Laws of runs. Assumes nothing.
 use mathlib.Core.Path.{_≡_, refl, sym, ap, ap₂, _∙_, subst}
-use mathlib.Core.Bool.{Bool, true, false, cond, not, _&&_, _||_}
+use mathlib.Core.Bool.{Bool, true, false, cond}
 use mathlib.Core.List.{List, [], _∷_}
 use Prim.Native.Nat.{ℕ, zero, suc, _+_, _-_, _≤_, _<_, zero-le, suc-le-suc}
 use native.Mathlib.Nat.{not-suc-le-zero, le-refl, le-of-suc-le-suc, zero-lt-suc, add-zero, add-suc, add-assoc, lt-of-lt-of-le, sub-self}
@@ -9,7 +9,7 @@ use native.Mathlib.Omega.{arith}
 use borrow.Author.Tests.{ltb-true, ltb-false}
 use lib.Dec.{ltb}
 use lib.ListN.{length, getD, set, take, drop, length-set, length-take, length-drop, drop-of-length-le}
-use lib.Seq.{getD-take, getD-drop, getD-set-same, getD-set-other, take-nil, paste, paste-zero, paste-suc}
+use lib.Seq.{getD-take, getD-drop, take-nil, paste, paste-zero, paste-suc}
 use Rattle.runs.specs.Runs.{lead, All, laid}
 
 split : {P : Type 0} (a b : ℕ) (t : Bool) → ltb a b ≡ t → (a < b → P) → (b ≤ a → P) → P
@@ -27,15 +27,6 @@ pub all-add : (p : ℕ → Bool) (s : List ℕ) (i m n : ℕ) → All p s i m �
 all-add p s i m n f g k h =
     cases {P = p (getD s (i + k) 0) ≡ true} k m (λ u. f k u)
     (λ u. subst (λ (x : ℕ). p (getD s x 0) ≡ true) (place i m k u) (g (k - m) (omega arith)))
-
--- one byte more of those that are read before they are written: `copy8` cites this
-pub copied-more :
-    (t s : List ℕ) (i k : ℕ) → k < length t → ((q : ℕ) → q < k → getD t q 0 ≡ getD s (i + q) 0) →
-    (q : ℕ) → q < k + 1 → getD (set t k (getD s (i + k) 0)) q 0 ≡ getD s (i + q) 0
-copied-more t s i k h f q u =
-    cases {P = getD (set t k (getD s (i + k) 0)) q 0 ≡ getD s (i + q) 0} q k
-    (λ v. getD-set-other t k q (getD s (i + k) 0) 0 (λ e. absurd (omega arith)) ∙ f q v)
-    (λ v. let e : q ≡ k = omega arith in rw e (getD-set-same t k (getD s (i + k) 0) 0 h))
 
 -- a run of a list is as long as it goes
 lead-is : (p : ℕ → Bool) (xs : List ℕ) (m : ℕ) → m ≤ length xs → ((k : ℕ) → k < m → p (getD xs k 0) ≡ true) → (m < length xs → p (getD xs m 0) ≡ false) → lead p xs ≡ m
@@ -116,17 +107,6 @@ laid-whole d e l s i k m h q =
     whole : (k m : ℕ) → k ≤ m → k + (m - k) ≡ m
     whole k m h = omega arith
 
--- the tests of a sort, one by one
-pub noise-is : (x y z : Bool) → not x ≡ true → not y ≡ true → not z ≡ true → (not x && not (y || z)) ≡ true
-noise-is true y z p q r = p
-noise-is false true z p q r = q
-noise-is false false true p q r = r
-noise-is false false false p q r = refl
-
-pub plain-is : (x y : Bool) → not x ≡ true → not y ≡ true → (not x && not y) ≡ true
-plain-is true y p q = p
-plain-is false y p q = q
-
 -- no bytes
 pub all-none : (p : ℕ → Bool) (s : List ℕ) (i : ℕ) → All p s i 0
 all-none p s i k h = absurd (not-suc-le-zero h)
@@ -151,12 +131,26 @@ unfolding lead
 lead-all p [] k h = absurd (not-suc-le-zero h)
 lead-all p (x ∷ xs) k h = counted-all p x xs (lead p xs) (λ j u. lead-all p xs j u) (p x) refl k h
 
+counted-stops : (p : ℕ → Bool) (x : ℕ) (xs : List ℕ) (n : ℕ) → (n < length xs → p (getD xs n 0) ≡ false) → (t : Bool) → p x ≡ t → cond t (suc n) 0 < suc (length xs) → p (getD (x ∷ xs) (cond t (suc n) 0) 0) ≡ false
+counted-stops p x xs n f true e h = f (le-of-suc-le-suc h)
+counted-stops p x xs n f false e h = e
+
+lead-stops : (p : ℕ → Bool) (xs : List ℕ) → lead p xs < length xs → p (getD xs (lead p xs) 0) ≡ false
+unfolding lead
+lead-stops p [] h = absurd (not-suc-le-zero h)
+lead-stops p (x ∷ xs) h = counted-stops p x xs (lead p xs) (lead-stops p xs) (p x) refl h
+
 module _ (p : ℕ → Bool) (s : List ℕ) (i r : ℕ) (h : i ≤ length s) (e : r ≡ lead p (drop i s)) where
   pub run-placed : i + r ≤ length s
   run-placed = omega (arith, lead-le p (drop i s), length-drop i s)
 
   pub run-all : All p s i r
   run-all k u = rw getD-drop at (lead-all p (drop i s) k (subst (λ (m : ℕ). k < m) e u))
+
+  pub run-stops : i + r < length s → p (getD s (i + r) 0) ≡ false
+  run-stops u =
+      let v : lead p (drop i s) < length (drop i s) = omega (arith, length-drop i s) in
+      subst (λ (m : ℕ). p (getD s (i + m) 0) ≡ false) (sym e) (rw getD-drop at (lead-stops p (drop i s) v))
 
 module _ (p : ℕ → Bool) (s : List ℕ) (i n r : ℕ) (h : i ≤ length s) (e : r ≡ lead p (take n (drop i s))) where
   copied : r ≤ length (take n (drop i s))

@@ -1,6 +1,6 @@
 -- What marks tell: which bytes pass, how many before the first that fails, and how those are laid. Assumes nothing.
 use mathlib.Core.Path.{_≡_, refl, sym, ap, ap₂, _∙_, subst}
-use mathlib.Core.Bool.{Bool, true, false, cond}
+use mathlib.Core.Bool.{Bool, true, false, cond, not}
 use mathlib.Core.List.{List, [], _∷_, _++_, map, append-assoc}
 use Prim.Native.Nat.{ℕ, zero, suc, _+_, _-_, _*_, _/_, _%_, _^_, _≤_, _<_}
 use native.Mathlib.Nat.{not-suc-le-zero, zero-lt-suc, le-of-suc-le-suc, mod-eq-of-lt}
@@ -17,10 +17,11 @@ use Rattle.laws.proofs.Bytes.{bytes-take, bytes-drop, bytes-append}
 use Rattle.laws.proofs.Lay.{laidOver-take}
 use Rattle.words.specs.Words.{leOf, digits, putOf, numberOf}
 use Rattle.words.proofs.Laws.{digits-of, put-is, number-is}
-use Rattle.runs.specs.Runs.{lead, All, laid}
+use Rattle.runs.specs.Runs.{fenced, isOf, lead, All, laid}
+use Rattle.runs.specs.declared.Sort.the-variants as sort
 use Rattle.runs.specs.Marks.{mark, marked, Eight, Marks, Below, Filled, Blended}
 use Rattle.runs.proofs.Laws.{laid-paste, copy-all}
-use Rattle.runs.proofs.Bytewise.{below-is}
+use Rattle.runs.proofs.Bytewise.{is-all, is-or, is-xor, is-same, below-is, gives-bytes}
 
 -- the mark of a byte, by whether it passes
 abbrev of : Bool → ℕ
@@ -183,3 +184,23 @@ module _ (s : List ℕ) (a n w : ℕ) (h : Bytes s) (g : a + 8 ≤ length s) (en
       let both = b p bs eight-of (f bs eight-of) in
       let few : r ≤ 8 = omega (arith, some-eight p z f u, both .0) in
       (copy-all p s a 8 r (omega arith) (both .0), few, both .1 ∙ paste-laid d l s a r hd g few)
+
+-- the marks of two sorts joined: noise is neither idle nor 7e, and what stands for itself is neither fenced nor 7e
+pub marks-noise : (w x y : ℕ) → Marks (isOf sort.Raw) w x → Marks (isOf sort.Idle) w y → Marks (isOf sort.Noise) w (bitOr x (bitXor y 0x8080808080808080))
+unfolding isOf
+marks-noise w x y raw idle bs q =
+    let h = q .bytes in
+    let e = q .eight in
+    let r = mark (isOf sort.Raw) in
+    let i : ℕ → ℕ = λ b. bitXor (mark (isOf sort.Idle) b) 0x80 in
+    let is-i = is-xor bs h e y 0x8080808080808080 (mark (isOf sort.Idle)) (λ b. 0x80) (gives-bytes (mark (isOf sort.Idle)) tt) (gives-bytes (λ b. 0x80) tt) (idle bs q) (is-all bs h e 0x8080808080808080 0x80 refl) in
+    is-same bs h e (bitOr x (bitXor y 0x8080808080808080)) (λ b. bitOr (r b) (i b)) (mark (isOf sort.Noise)) (below-is 256 (λ b. bitOr (r b) (i b)) (mark (isOf sort.Noise)) tt) (is-or bs h e x (bitXor y 0x8080808080808080) r i (gives-bytes r tt) (gives-bytes i tt) (raw bs q) is-i)
+
+pub marks-plain : (w x y : ℕ) → Marks (isOf sort.Raw) w x → Marks (λ b. not (fenced b)) w y → Marks (isOf sort.Plain) w (bitOr x y)
+unfolding isOf
+marks-plain w x y raw fences bs q =
+    let h = q .bytes in
+    let e = q .eight in
+    let r = mark (isOf sort.Raw) in
+    let f = mark (λ b. not (fenced b)) in
+    is-same bs h e (bitOr x y) (λ b. bitOr (r b) (f b)) (mark (isOf sort.Plain)) (below-is 256 (λ b. bitOr (r b) (f b)) (mark (isOf sort.Plain)) tt) (is-or bs h e x y r f (gives-bytes r tt) (gives-bytes f tt) (raw bs q) (fences bs q))

@@ -2,9 +2,10 @@
 use mathlib.Core.Path.{_≡_}
 use mathlib.Core.Bool.{Bool, cond}
 use mathlib.Core.List.{List, map}
-use Prim.Native.Nat.{ℕ, _<_}
+use Prim.Native.Nat.{ℕ, _+_, _<_}
 use lib.ListN.{length, replicate}
 use lib.Seq.{paste}
+use lib.Bits.{bitAnd, bitXor}
 use Rattle.laws.specs.Bytes.{Bytes}
 use Rattle.words.specs.Words.{leOf}
 use Rattle.runs.specs.Runs.{lead}
@@ -26,6 +27,10 @@ pub record Eight (bs : List ℕ) (w : ℕ) : Type 0 where
 -- r marks the bytes of w that fail a test
 abbrev pub Marks : (ℕ → Bool) → ℕ → ℕ → Type 0
 Marks p w r = (bs : List ℕ) → Eight bs w → r ≡ marked p bs
+
+-- of each byte the highest bit, set if its lower seven bits and a byte of a reach 80, and they and one of b do not
+abbrev pub betweenOf : ℕ → ℕ → ℕ → ℕ
+betweenOf w a b = bitAnd (bitAnd (bitAnd w 0x7f7f7f7f7f7f7f7f + a) (bitXor (bitAnd w 0x7f7f7f7f7f7f7f7f + b) 0xffffffffffffffff)) 0x8080808080808080
 
 -- r has all bits of the bytes below the first mark of z
 abbrev pub Below : ℕ → ℕ → Type 0

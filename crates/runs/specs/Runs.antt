@@ -6,7 +6,7 @@ use Prim.Native.Nat.{ℕ, zero, suc, _+_, _-_, _%_, _≤_, _<_}
 use lib.ListN.{length, getD, set, take, drop}
 use lib.Dec.{eqb, ltb}
 use Rattle.runs.specs.declared.Sort.{Sort}
-use Rattle.runs.specs.declared.Sort.the-variants.{Raw, Idle, Noise, Plain}
+use Rattle.runs.specs.declared.Sort.the-variants.{Raw, Idle, Noise, Plain, Calm}
 
 -- 01, "The reading of a stream": a data unit is a byte other than 7e
 abbrev pub raw : ℕ → Bool
@@ -20,12 +20,18 @@ idle b = eqb b 0x00 || eqb b 0xff
 abbrev pub fenced : ℕ → Bool
 fenced b = not (ltb (b % 0x80) 0x23) && ltb (b % 0x80) 0x26
 
--- which bytes are of a sort: raw; idle; another byte outside a frame, which is noise; one that stands for itself on the wire
+-- 7e 07 opens a frame, and 7e 08 closes one
+abbrev pub calm : ℕ → Bool
+calm b = not (eqb b 0x07) && not (eqb b 0x08)
+
+-- which bytes are of a sort: raw; idle; another byte outside a frame, which is noise; one that stands for itself on the wire; one that with a 7e
+-- before it neither opens nor closes a frame
 unfoldable pub isOf : Sort → ℕ → Bool
 isOf Raw b = raw b
 isOf Idle b = idle b
 isOf Noise b = raw b && not (idle b)
 isOf Plain b = raw b && not (fenced b)
+isOf Calm b = calm b
 
 -- how many bytes at the start of a list meet a test
 unfoldable pub lead : (ℕ → Bool) → List ℕ → ℕ

@@ -1,21 +1,20 @@
-// Runs of bytes, taken many at a time: eight while all eight are of a sort, then one by one. Idle bytes, and raw bytes that are copied, go
-// by words: the bytes that end a run are marked, and those before the first mark are counted at once. The receiver skips and copies such
-// runs, and the encoder copies the bytes that stand for themselves.
+// Runs of bytes, taken by words of eight: the bytes that end a run are marked in the word, and those before the first mark are counted at once.
+// The receiver skips and copies such runs, and the encoder copies the bytes that stand for themselves.
 ghost use mathlib.Core.Path.{_≡_};
-ghost use mathlib.Core.Bool.{true, not};
+ghost use mathlib.Core.Bool.{not};
 ghost use Prim.Native.Nat.{ℕ, _+_, _-_, _≤_, _<_};
 ghost use lib.ListN.{length, take, drop};
 ghost use lib.Seq.{paste};
-ghost use lib.Dec.{eqb};
 ghost use Rattle.runs.specs.Runs.{idle, fenced, isOf, lead, All, laid, Copied};
-ghost use Rattle.runs.specs.Marks.{Marks, Below, Filled, Blended};
+ghost use Rattle.runs.specs.Marks.{Marks, betweenOf, Below, Filled, Blended};
 
-// A sort of bytes: any but 7e; 00 and ff; any but 00, ff and 7e; those that stand for themselves on the wire.
+// A sort of bytes: any but 7e; 00 and ff; any but 00, ff and 7e; those that stand for themselves on the wire; any but 07 and 08.
 pub enum Sort {
     Raw,
     Idle,
     Noise,
     Plain,
+    Calm,
 }
 
 // 23 to 25 and a3 to a5.
@@ -58,63 +57,13 @@ pub fn is(sort: Sort, b: u8) -> bool
             }
             !is_fenced(b)
         }
-    }
-}
-
-// Whether none of the eight bytes at i is x.
-fn none8(s: &[u8], i: usize, x: u8) -> bool
-    requires { ⌜ i + 8 ≤ length (now s) ⌝ }
-    ensures { λ r. ⌜ (r ≡ true → All (λ b. not (eqb b x)) (now (s .entry)) i 8) ⌝ }
-{
-    let mut e: u8 = 0;
-    let mut k = 0;
-    while k < 8 {
-        if s[i + k] == x {
-            e = 1;
-        }
-        k += 1;
-    }
-    e == 0
-}
-
-// Whether none of the eight bytes at i is 23 to 25 or a3 to a5.
-fn open8(s: &[u8], i: usize) -> bool
-    requires { ⌜ i + 8 ≤ length (now s) ⌝ }
-    ensures { λ r. ⌜ (r ≡ true → All (λ b. not (fenced b)) (now (s .entry)) i 8) ⌝ }
-{
-    let mut e: u8 = 0;
-    let mut k = 0;
-    while k < 8 {
-        if is_fenced(s[i + k]) {
-            e = 1;
-        }
-        k += 1;
-    }
-    e == 0
-}
-
-// Whether none of the eight bytes at i is 00, ff or 7e.
-fn noise8(s: &[u8], i: usize) -> bool
-    requires { ⌜ i + 8 ≤ length (now s) ⌝ }
-    ensures { λ r. ⌜ (r ≡ true → All (isOf Sort.Noise) (now (s .entry)) i 8) ⌝ }
-{
-    if none8(s, i, 0x7e) {
-        if none8(s, i, 0x00) {
-            return none8(s, i, 0xff);
+        Sort::Calm => {
+            if b == 0x07 {
+                return false;
+            }
+            b != 0x08
         }
     }
-    false
-}
-
-// Whether the eight bytes at i stand for themselves on the wire.
-fn plain8(s: &[u8], i: usize) -> bool
-    requires { ⌜ i + 8 ≤ length (now s) ⌝ }
-    ensures { λ r. ⌜ (r ≡ true → All (isOf Sort.Plain) (now (s .entry)) i 8) ⌝ }
-{
-    if none8(s, i, 0x7e) {
-        return open8(s, i);
-    }
-    false
 }
 
 // Marks the bytes of a word that are 7e: 80 in the place of each, 00 elsewhere.
@@ -133,6 +82,42 @@ fn busy(w: u64) -> u64
     let t = (w & 0x7f7f7f7f7f7f7f7f) + 0x0101010101010101;
     let v = (t ^ (w & 0x8080808080808080)) & 0xfefefefefefefefe;
     (((v & 0x7f7f7f7f7f7f7f7f) + 0x7f7f7f7f7f7f7f7f) | v) & 0x8080808080808080
+}
+
+// Marks those whose lower seven bits are at least 80 less a byte of `a`, and below 80 less a byte of `b`.
+fn between(w: u64, a: u64, b: u64) -> u64
+    requires { ⌜ (a ≤ 0x8080808080808080) × (b ≤ 0x8080808080808080) ⌝ }
+    ensures { λ r. ⌜ r ≡ betweenOf w a b ⌝ }
+{
+    let x = w & 0x7f7f7f7f7f7f7f7f;
+    ((x + a) & ((x + b) ^ 0xffffffffffffffff)) & 0x8080808080808080
+}
+
+// Marks those that are 23 to 25 or a3 to a5.
+fn fences(w: u64) -> u64
+    ensures { λ r. ⌜ Marks (λ b. not (fenced b)) w r ⌝ }
+{
+    between(w, 0x5d5d5d5d5d5d5d5d, 0x5a5a5a5a5a5a5a5a)
+}
+
+// Marks those that are 07 or 08.
+fn ends(w: u64) -> u64
+    ensures { λ r. ⌜ Marks (isOf Sort.Calm) w r ⌝ }
+{
+    between(w, 0x7979797979797979, 0x7777777777777777) & (w ^ 0xffffffffffffffff)
+}
+
+// Marks those that are not of a sort.
+fn others(sort: Sort, w: u64) -> u64
+    ensures { λ r. ⌜ Marks (isOf sort) w r ⌝ }
+{
+    match sort {
+        Sort::Raw => escapes(w),
+        Sort::Idle => busy(w),
+        Sort::Noise => escapes(w) | (busy(w) ^ 0x8080808080808080),
+        Sort::Plain => escapes(w) | fences(w),
+        Sort::Calm => ends(w),
+    }
 }
 
 // All bits of the bytes below the first mark.
@@ -154,68 +139,23 @@ fn filled(m: u64) -> usize
     (e % 16) as usize
 }
 
-// How many bytes at i pass by eights, none of them 7e.
-fn raw_eights(s: &[u8], i: usize) -> usize
+// How many bytes of a sort pass at i by words: up to the first that is not, or to where no eight are left.
+fn eights(sort: Sort, s: &[u8], i: usize) -> usize
     requires { ⌜ i ≤ length (now s) ⌝ }
-    ensures { λ r. ⌜ (i + r ≤ length (now (s .entry))) × All (isOf Sort.Raw) (now (s .entry)) i r ⌝ }
-{
-    let left = s.len() - i;
-    let mut m = 0;
-    while m + 8 <= left {
-        if !none8(s, i + m, 0x7e) {
-            break;
-        }
-        m += 8;
-    }
-    m
-}
-
-// How many of 00 and ff pass at i by words: up to the first other byte, or to where no eight are left.
-fn idle_eights(s: &[u8], i: usize) -> usize
-    requires { ⌜ i ≤ length (now s) ⌝ }
-    ensures { λ r. ⌜ (i + r ≤ length (now (s .entry))) × All (isOf Sort.Idle) (now (s .entry)) i r ⌝ }
+    ensures { λ r. ⌜ (i + r ≤ length (now (s .entry))) × All (isOf sort) (now (s .entry)) i r ⌝ }
 {
     let left = s.len() - i;
     let mut m = 0;
     while m + 8 <= left {
         let a = i + m;
         let e = a + 8;
-        let z = busy(words::word(&s[a..e]));
+        let z = others(sort, words::word(&s[a..e]));
         if z != 0 {
             return m + filled(below(z));
         }
         m += 8;
     }
     m
-}
-
-// How many bytes at i pass by eights, none of them 00, ff or 7e.
-fn noise_eights(s: &[u8], i: usize) -> usize
-    requires { ⌜ i ≤ length (now s) ⌝ }
-    ensures { λ r. ⌜ (i + r ≤ length (now (s .entry))) × All (isOf Sort.Noise) (now (s .entry)) i r ⌝ }
-{
-    let left = s.len() - i;
-    let mut m = 0;
-    while m + 8 <= left {
-        if !noise8(s, i + m) {
-            break;
-        }
-        m += 8;
-    }
-    m
-}
-
-// How many bytes of a sort pass by eights at i; of plain ones none, which are copied and not counted.
-fn eights(sort: Sort, s: &[u8], i: usize) -> usize
-    requires { ⌜ i ≤ length (now s) ⌝ }
-    ensures { λ r. ⌜ (i + r ≤ length (now (s .entry))) × All (isOf sort) (now (s .entry)) i r ⌝ }
-{
-    match sort {
-        Sort::Raw => raw_eights(s, i),
-        Sort::Idle => idle_eights(s, i),
-        Sort::Noise => noise_eights(s, i),
-        Sort::Plain => 0,
-    }
 }
 
 // How many bytes of a sort stand at i.
@@ -237,24 +177,6 @@ pub fn run(sort: Sort, s: &[u8], i: usize) -> usize
     m
 }
 
-// Copies the eight bytes of s at i to d at l: all are read before one is written, so that they go as one.
-fn copy8(d: &mut [u8], l: usize, s: &[u8], i: usize)
-    requires { ⌜ (i + 8 ≤ length (now s)) × (l + 8 ≤ length (now d)) ⌝ }
-    ensures { λ _. ⌜ now (d .exit) ≡ laid (now (d .entry)) l (now (s .entry)) i 8 ⌝ }
-{
-    let mut t = [0u8; 8];
-    let mut k = 0;
-    while k < 8 {
-        t[k] = s[i + k];
-        k += 1;
-    }
-    let mut j = 0;
-    while j < 8 {
-        d[l + j] = t[j];
-        j += 1;
-    }
-}
-
 // Lays the bytes of a word before the first mark to d at l.
 fn blend(d: &mut [u8], l: usize, w: u64, z: u64) -> usize
     requires { ⌜ (l + 8 ≤ length (now d)) × (1 ≤ z) ⌝ }
@@ -267,17 +189,17 @@ fn blend(d: &mut [u8], l: usize, w: u64, z: u64) -> usize
     filled(m)
 }
 
-// Copies raw bytes by words, at most `most`: up to the first 7e, or to where no eight are left.
-fn copy_raw_eights(d: &mut [u8], l: usize, s: &[u8], i: usize, most: usize) -> usize
+// Copies bytes of a sort by words, at most `most`: up to the first that is not, or to where no eight are left.
+fn copy_eights(sort: Sort, d: &mut [u8], l: usize, s: &[u8], i: usize, most: usize) -> usize
     requires { ⌜ (i + most ≤ length (now s)) × (l + most ≤ length (now d)) ⌝ }
-    ensures { λ r. ⌜ Copied (isOf Sort.Raw) (now (d .entry)) l (now (s .entry)) i most r (now (d .exit)) ⌝ }
+    ensures { λ r. ⌜ Copied (isOf sort) (now (d .entry)) l (now (s .entry)) i most r (now (d .exit)) ⌝ }
 {
     let mut m = 0;
     while m + 8 <= most {
         let a = i + m;
         let e = a + 8;
         let w = words::word(&s[a..e]);
-        let z = escapes(w);
+        let z = others(sort, w);
         let b = l + m;
         if z != 0 {
             return m + blend(d, b, w, z);
@@ -287,34 +209,6 @@ fn copy_raw_eights(d: &mut [u8], l: usize, s: &[u8], i: usize, most: usize) -> u
         m += 8;
     }
     m
-}
-
-// Copies plain bytes by eights, at most `most`.
-fn copy_plain_eights(d: &mut [u8], l: usize, s: &[u8], i: usize, most: usize) -> usize
-    requires { ⌜ (i + most ≤ length (now s)) × (l + most ≤ length (now d)) ⌝ }
-    ensures { λ r. ⌜ Copied (isOf Sort.Plain) (now (d .entry)) l (now (s .entry)) i most r (now (d .exit)) ⌝ }
-{
-    let mut m = 0;
-    while m + 8 <= most {
-        if !plain8(s, i + m) {
-            break;
-        }
-        copy8(d, l + m, s, i + m);
-        m += 8;
-    }
-    m
-}
-
-// Copies bytes of a sort by eights, at most `most`; idle bytes and noise, which are skipped and not copied, not at all.
-fn copy_eights(sort: Sort, d: &mut [u8], l: usize, s: &[u8], i: usize, most: usize) -> usize
-    requires { ⌜ (i + most ≤ length (now s)) × (l + most ≤ length (now d)) ⌝ }
-    ensures { λ r. ⌜ Copied (isOf sort) (now (d .entry)) l (now (s .entry)) i most r (now (d .exit)) ⌝ }
-{
-    match sort {
-        Sort::Raw => copy_raw_eights(d, l, s, i, most),
-        Sort::Plain => copy_plain_eights(d, l, s, i, most),
-        _ => 0,
-    }
 }
 
 // Copies the bytes of a sort that stand at i, as many as there is room for, to d at l.

@@ -1,11 +1,13 @@
--- `link_feed::tails::tail` skips a run of raw bytes, what stands behind it, and so on: each time feeding on from there is feeding from where it began. Assumes nothing.
+-- `link_feed::tails::tail` skips what does not end a tail, then 07 or 08 that ends no pair, and so on: each time feeding on from there is feeding from
+-- where it began. Assumes nothing.
+use mathlib.Core.Path.{sym, _∙_}
 use Prim.Native.Nat.{_+_, _-_}
 use native.Mathlib.Omega.{arith}
 use lib.ListN.{length}
 use borrow.Author.Needs.{needs}
 use Rattle.crc.specs.Crc.{crcOf}
 use Rattle.link_feed.specs.Advance.{Skipped}
-use Rattle.link_feed.proofs.Skips.{skipped-none, skipped-more, skipped-lead}
+use Rattle.link_feed.proofs.Skips.{skipped-none, tail-placed, tail-half, tail-whole, tail-past}
 use Rattle.link_feed.proofs.tails.tail.Statement.{statement}
 use Rattle.link_feed.proofs.tails.tail.Tie as tie
 
@@ -21,37 +23,67 @@ loop-holds c = skipped-none crcOf _ _ (search needs)
 run-requires : tie.Need-run-requires Inv-loop μ-loop
 run-requires c κs = search needs
 
-add-i : tie.Need-add-i Inv-loop μ-loop
-add-i c =
-    let l = c .before .before .loop in
-    omega (arith, skipped-lead crcOf _ _ (l .i) (l .inv) (c .run .result) (c .run .ensures) .placed)
+add-j : tie.Need-add-j Inv-loop μ-loop
+add-j c = let l = c .before .before .loop in omega (arith, tail-placed crcOf _ _ (l .i) (l .inv) (c .run .result) (c .run .ensures))
 
-past-requires : tie.Need-past-requires Inv-loop μ-loop
-past-requires c κs =
-    let l = c .before .before .loop in
-    skipped-lead crcOf _ _ (l .i) (l .inv) (c .run .result) (c .run .ensures) .placed
+half-requires : tie.Need-half-requires Inv-loop μ-loop
+half-requires c κs = let l = c .before .before .loop in (omega arith, tail-placed crcOf _ _ (l .i) (l .inv) (c .run .result) (c .run .ensures))
 
-loop-less : tie.Need-loop-less Inv-loop μ-loop
-loop-less c =
-    let p = c .before .past .ensures in
-    omega (arith, p .placed, p .further)
-
-loop-again : tie.Need-loop-again Inv-loop μ-loop
-loop-again c =
+sub-result : tie.Need-sub-result Inv-loop μ-loop
+sub-result c =
     let l = c .before .before .before .before .loop in
     let run = c .before .before .run in
-    let g = skipped-lead crcOf _ _ (l .i) (l .inv) (run .result) (run .ensures) in
-    skipped-more crcOf _ _ (l .i + run .result) g (c .before .past .result) (c .before .past .ensures)
+    omega (arith, tail-half crcOf _ _ (l .i) (l .inv) (run .result) (run .ensures) (sym (c .before .half .ensures) ∙ c .if1 .taken) .0)
 
 returns : tie.Need-returns Inv-loop μ-loop
-returns c = c .before .loop .inv
+returns c =
+    let l = c .before .before .before .before .loop in
+    let run = c .before .before .run in
+    tail-half crcOf _ _ (l .i) (l .inv) (run .result) (run .ensures) (sym (c .before .half .ensures) ∙ c .if1 .taken) .1
 
 returns-2 : tie.Need-returns-2 Inv-loop μ-loop
 returns-2 c =
-    let l = c .before .before .before .before .loop in
-    let run = c .before .before .run in
-    skipped-lead crcOf _ _ (l .i) (l .inv) (run .result) (run .ensures)
+    let l = c .before .before .before .before .before .loop in
+    let run = c .before .before .before .run in
+    tail-whole crcOf _ _ (l .i) (l .inv) (run .result) (run .ensures) (sym (c .before .before .half .ensures) ∙ c .before .if1 .left)
+
+add-i : tie.Need-add-i Inv-loop μ-loop
+add-i c =
+    let l = c .before .before .before .before .before .loop in
+    let run = c .before .before .before .run in
+    omega (arith, tail-placed crcOf _ _ (l .i) (l .inv) (run .result) (run .ensures), c .if2 .left)
+
+-- the place behind the byte that ends the run
+past : (c : tie.Else2 Inv-loop μ-loop) → let a = c .before .before .before .before .before .before .before .args in let l = c .before .before .before .before .before .loop in Skipped crcOf (a .s .now) (a .i0) (l .i + c .before .before .before .run .result + 1)
+past c =
+    let l = c .before .before .before .before .before .loop in
+    let run = c .before .before .before .run in
+    let p = tail-placed crcOf _ _ (l .i) (l .inv) (run .result) (run .ensures) in
+    tail-past crcOf _ _ (l .i) (run .result) (l .inv) (run .ensures) (sym (c .before .before .half .ensures) ∙ c .before .if1 .left) (omega (arith, p, c .if2 .left))
+
+loop-less : tie.Need-loop-less Inv-loop μ-loop
+loop-less c = omega (arith, past c .placed)
+
+loop-again : tie.Need-loop-again Inv-loop μ-loop
+loop-again c = past c
+
+returns-3 : tie.Need-returns-3 Inv-loop μ-loop
+returns-3 c = c .before .loop .inv
 
 pub tail-spec : {M : Type 1} → statement M
 tail-spec =
-    tie.close (tie.spec Inv-loop μ-loop loop-holds run-requires add-i past-requires loop-less loop-again returns returns-2)
+    tie.close
+    (tie.spec
+    Inv-loop
+    μ-loop
+    loop-holds
+    run-requires
+    add-j
+    half-requires
+    sub-result
+    returns
+    returns-2
+    add-i
+    loop-less
+    loop-again
+    returns-3)
