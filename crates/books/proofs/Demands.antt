@@ -1,5 +1,5 @@
 -- THE DEMANDS, each closed by the work below it. What a reader needs beside this file: the grammar (reading/specs/Grammar.antt), its counts
--- (reading/specs/Counts.antt), the wire form (link/specs/Wire.antt) and what a host's run is (`Hosted` of link_receive/specs/Drain.antt).
+-- (reading/specs/Counts.antt), the wire form (link/specs/Wire.antt) and what a host's run is (`Hosted` of link_feed/specs/Drain.antt).
 -- Everything is over any check; the CRC is put in where the code's contracts name `crcOf`. Assumes nothing.
 use mathlib.Core.Path.{_≡_, refl, sym, _∙_, ap}
 use Prim.Native.Nat.{ℕ, _+_, _≤_, _<_, _^_}

@@ -1,4 +1,4 @@
-// The receiver with tallies that a host lends: thin functions above the by-value ones of link_receive.
+// The receiver with tallies that a host lends: thin functions above the by-value ones of link_receive and link_feed.
 ghost use mathlib.Core.Path.{_≡_};
 ghost use Rattle.crc.specs.Crc.{crcOf};
 ghost use Rattle.link_receive.specs.Step.{stepOf};

@@ -7,7 +7,6 @@ ghost use Rattle.crc.specs.Crc.{crcOf};
 ghost use Rattle.link_receive.specs.Tally.{kindOf, raise};
 ghost use Rattle.link_receive.specs.Numbered.{tallyPlace, talliesAt};
 ghost use Rattle.link_receive.specs.Step.{limit, parsedOf, closedOf, stepOf};
-ghost use Rattle.link_feed.specs.Feed.{feedOf};
 ghost use Rattle.link_feed.specs.Advance.{heldOf, steppedOf, stoodOf, fedOf, Ahead, Stands, Paired, Onward, stopsAt, wentOf};
 use crate::Advanced;
 use crate::Pair;
@@ -314,20 +313,4 @@ pub fn advance(
         answer: Answer::Nothing,
         at: i,
     }
-}
-
-// Feeds a slice from its start. Refused by 12, with nothing changed and nothing taken, if the length is over the limit.
-pub fn fed(state: State, len: usize, tallies: &mut [u64], body: &mut [u8], s: &[u8]) -> Advanced
-    requires { ⌜ (length (now body) ≡ limit) × (length (now tallies) ≡ 10) ⌝ }
-    ensures { λ r. ⌜ fedOf r (now (body .exit)) (now (tallies .exit)) ≡ feedOf crcOf (heldOf state (now (body .entry)) len (now (tallies .entry))) (now (s .entry)) ⌝ }
-{
-    if Receiver::MAX_FRAME_SIZE < len {
-        return Advanced {
-            state: state,
-            len: len,
-            answer: Answer::Refused,
-            at: 0,
-        };
-    }
-    advance(state, len, tallies, body, s, 0, true)
 }

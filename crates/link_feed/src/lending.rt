@@ -8,7 +8,7 @@ ghost use Rattle.link_feed.specs.Feed.{feedOf};
 ghost use Rattle.link_feed.specs.Lent.{placeFed, fedInOf, startOf, placeAfter, reachedOf};
 use crate::FedIn;
 use crate::Reached;
-use crate::feeding::fed;
+use crate::feeding::advance;
 use link_receive::Answer;
 use link_receive::Receiver;
 use link_receive::numbered::state_at;
@@ -29,7 +29,7 @@ pub fn feed_in(place: &mut [u64; 10], body: &mut [u8; 256], s: &[u8]) -> FedIn
         };
     }
     let state = state_at(place[0]);
-    let a = fed(state, len, place, body, s);
+    let a = advance(state, len, place, body, s, 0, true);
     let next = a.state;
     let answer = a.answer;
     place[0] = state_number(next);

@@ -13,7 +13,7 @@ use Rattle.link_receive.specs.Numbered.{stateAt, stateNumber, receiverAt, place
 use Rattle.link_feed.specs.Lent.{fedInOf}
 use Rattle.link_feed.specs.Advance.{heldOf, fedOf}
 use Rattle.link_feed.proofs.Lent.{place-set}
-use Rattle.link_feed.proofs.Feeds.{feedOf-over}
+use Rattle.link_feed.proofs.Feeds.{feedOf-over, feedOf-within}
 use Rattle.link_feed.proofs.lending.feed_in.Statement.{statement}
 use Rattle.link_feed.proofs.lending.feed_in.Tie as tie
 
@@ -34,8 +34,8 @@ element-copy-out-state-at c = search needs
 state-at-requires : tie.Need-state-at-requires
 state-at-requires c κs = search needs
 
-fed-requires : tie.Need-fed-requires
-fed-requires c κs = search needs
+advance-requires : tie.Need-advance-requires
+advance-requires c κs = search needs
 
 state-number-requires : tie.Need-state-number-requires
 state-number-requires c κs = search needs
@@ -50,12 +50,12 @@ returns-2 : tie.Need-returns-2
 returns-2 c =
     let a = c .before .before .before .before .before .before .before .before .before .args in
     let place = a .place .now in
-    let f = c .before .fed in
+    let f = c .before .advance in
     let next = f .last .1 .1 .0 in
     let ten : length next ≡ 10 = search needs in
     let h : getD place 1 0 ≤ limit = search needs in
     let e : fedOf (f .result) (f .last .1 .1 .1 .0) next ≡ feedOf crcOf (heldOf (stateAt (getD place 0 0)) (a .body .now) (getD place 1 0) place) (a .s .now) =
-    f .ensures ∙ ap (λ (x : State). feedOf crcOf (heldOf x (a .body .now) (getD place 1 0) place) (a .s .now)) (c .before .before .before .before .state-at .ensures)
+    f .ensures ∙ sym (feedOf-within crcOf (heldOf (c .before .before .before .before .state-at .result) (a .body .now) (getD place 1 0) place) (a .s .now) h) ∙ ap (λ (x : State). feedOf crcOf (heldOf x (a .body .now) (getD place 1 0) place) (a .s .now)) (c .before .before .before .before .state-at .ensures)
     in (
       ap fedInOf e,
       (rw (le-ltb limit (getD place 1 0) h, c .state-number .ensures) (place-set next (stateNumber (f .result .state)) (f .result .len) ten ∙ ap (λ (x : Fed). placeOf (x .next)) e), ap (λ (x : Fed). x .next .body) e),
@@ -69,7 +69,7 @@ feed-in-spec =
     returns
     element-copy-out-state-at
     state-at-requires
-    fed-requires
+    advance-requires
     state-number-requires
     element-write-place
     element-write-place-2
