@@ -2,8 +2,8 @@
 use Prim.Native.Nat.{ℕ, _*_, _^_}
 use mathlib.Core.Bool.{Bool, cond}
 use mathlib.Core.List.{List, [], _∷_}
-use Rattle.handlers.specs.declared.Answer.{Answer}
-use Rattle.handlers.specs.declared.Answer.the-variants as answer
+use Rattle.answers.specs.declared.Answer.{Answer}
+use Rattle.answers.specs.declared.Answer.the-variants as answer
 use Rattle.transport_receiver.specs.declared.Receiver.{Receiver}
 use Rattle.transport_receiver.specs.declared.Stepped.{Stepped}
 use Rattle.transport_receiver.specs.State.{frameOf}

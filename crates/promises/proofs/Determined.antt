@@ -22,9 +22,9 @@ use Rattle.network.specs.declared.DSN.{DSN}
 use Rattle.network.specs.declared.NodeAddress.{NodeAddress}
 use Rattle.slot_counter.specs.declared.SlotCounter.{SlotCounter}
 use Rattle.transport.specs.declared.PacketNumber.{PacketNumber}
-use Rattle.handlers.specs.Receive.{Asked, Received}
-use Rattle.handlers.specs.Command.{Requested, Answered}
-use Rattle.handlers.specs.Plain.{Counted}
+use Rattle.receive_frames.specs.Receive.{Asked, Received}
+use Rattle.command_frames.specs.Command.{Requested, Answered}
+use Rattle.plain_frames.specs.Plain.{Counted}
 use Rattle.transport_receiver.specs.declared.Stepped.{Stepped}
 use Rattle.promises.proofs.Ledgers.{ledgered-once}
 use Rattle.crc.proofs.crc.Kinds as crc·crc·kinds
@@ -155,16 +155,16 @@ use Rattle.tables.proofs.seat.Kinds as tables·seat·kinds
 use Rattle.tables.proofs.seat.Reads as tables·seat·reads
 use Rattle.tables.proofs.over.Kinds as tables·over·kinds
 use Rattle.tables.proofs.over.Reads as tables·over·reads
-use Rattle.handlers.proofs.receive.receive_request.Kinds as handlers·receive·receive-request·kinds
-use Rattle.handlers.proofs.receive.receive_request.Reads as handlers·receive·receive-request·reads
-use Rattle.handlers.proofs.receive.receive_response.Kinds as handlers·receive·receive-response·kinds
-use Rattle.handlers.proofs.receive.receive_response.Reads as handlers·receive·receive-response·reads
-use Rattle.handlers.proofs.command.command_request.Kinds as handlers·command·command-request·kinds
-use Rattle.handlers.proofs.command.command_request.Reads as handlers·command·command-request·reads
-use Rattle.handlers.proofs.command.command_response.Kinds as handlers·command·command-response·kinds
-use Rattle.handlers.proofs.command.command_response.Reads as handlers·command·command-response·reads
-use Rattle.handlers.proofs.plain.untabled.Kinds as handlers·plain·untabled·kinds
-use Rattle.handlers.proofs.plain.untabled.Reads as handlers·plain·untabled·reads
+use Rattle.receive_frames.proofs.receive_request.Kinds as receive-frames·receive-request·kinds
+use Rattle.receive_frames.proofs.receive_request.Reads as receive-frames·receive-request·reads
+use Rattle.receive_frames.proofs.receive_response.Kinds as receive-frames·receive-response·kinds
+use Rattle.receive_frames.proofs.receive_response.Reads as receive-frames·receive-response·reads
+use Rattle.command_frames.proofs.command_request.Kinds as command-frames·command-request·kinds
+use Rattle.command_frames.proofs.command_request.Reads as command-frames·command-request·reads
+use Rattle.command_frames.proofs.command_response.Kinds as command-frames·command-response·kinds
+use Rattle.command_frames.proofs.command_response.Reads as command-frames·command-response·reads
+use Rattle.plain_frames.proofs.untabled.Kinds as plain-frames·untabled·kinds
+use Rattle.plain_frames.proofs.untabled.Reads as plain-frames·untabled·reads
 use Rattle.transport_receiver.proofs.Receiver.new.Kinds as transport-receiver·Receiver·new·kinds
 use Rattle.transport_receiver.proofs.Receiver.new.Reads as transport-receiver·Receiver·new·reads
 use Rattle.transport_receiver.proofs.Receiver.step.Kinds as transport-receiver·Receiver·step·kinds
@@ -430,20 +430,20 @@ tables·seat κs a x y u v p q = (p ∙ sym q, refl)
 pub tables·over : Determined 2 tables·over·kinds.ps tables·over·kinds.r tables·over·reads.Learnt
 tables·over κs a x y u v p q = (p ∙ sym q, refl)
 
-pub handlers·receive·receive-request : Determined 4 handlers·receive·receive-request·kinds.ps handlers·receive·receive-request·kinds.r handlers·receive·receive-request·reads.Learnt
-handlers·receive·receive-request κs a x y u v p q = (ap (λ (s : Asked). s .answer) (p ∙ sym q), ap (λ (s : Asked). (at-last (a .0) (s .nkeys), (at-last (a .1 .0) (s .numbers), (at-last (a .1 .1 .0) (s .counters), (a .1 .1 .1 .0, (a .1 .1 .1 .1 .0, (a .1 .1 .1 .1 .1 .0, tt))))))) (p ∙ sym q))
+pub receive-frames·receive-request : Determined 4 receive-frames·receive-request·kinds.ps receive-frames·receive-request·kinds.r receive-frames·receive-request·reads.Learnt
+receive-frames·receive-request κs a x y u v p q = (ap (λ (s : Asked). s .answer) (p ∙ sym q), ap (λ (s : Asked). (at-last (a .0) (s .nkeys), (at-last (a .1 .0) (s .numbers), (at-last (a .1 .1 .0) (s .counters), (a .1 .1 .1 .0, (a .1 .1 .1 .1 .0, (a .1 .1 .1 .1 .1 .0, tt))))))) (p ∙ sym q))
 
-pub handlers·receive·receive-response : Determined 4 handlers·receive·receive-response·kinds.ps handlers·receive·receive-response·kinds.r handlers·receive·receive-response·reads.Learnt
-handlers·receive·receive-response κs a x y u v p q = (ap (λ (s : Received). s .answer) (p ∙ sym q), ap (λ (s : Received). (a .0, (at-last (a .1 .0) (s .numbers), (at-last (a .1 .1 .0) (s .counters), (a .1 .1 .1 .0, (a .1 .1 .1 .1 .0, (a .1 .1 .1 .1 .1 .0, tt))))))) (p ∙ sym q))
+pub receive-frames·receive-response : Determined 4 receive-frames·receive-response·kinds.ps receive-frames·receive-response·kinds.r receive-frames·receive-response·reads.Learnt
+receive-frames·receive-response κs a x y u v p q = (ap (λ (s : Received). s .answer) (p ∙ sym q), ap (λ (s : Received). (a .0, (at-last (a .1 .0) (s .numbers), (at-last (a .1 .1 .0) (s .counters), (a .1 .1 .1 .0, (a .1 .1 .1 .1 .0, (a .1 .1 .1 .1 .1 .0, tt))))))) (p ∙ sym q))
 
-pub handlers·command·command-request : Determined 8 handlers·command·command-request·kinds.ps handlers·command·command-request·kinds.r handlers·command·command-request·reads.Learnt
-handlers·command·command-request κs a x y u v p q = (ap (λ (s : Requested). s .answer) (p ∙ sym q), ap (λ (s : Requested). (at-last (a .0) (s .noted .skeys), (at-last (a .1 .0) (s .noted .sequences), (at-last (a .1 .1 .0) (s .seated .ckeys), (at-last (a .1 .1 .1 .0) (s .seated .ctypes), (at-last (a .1 .1 .1 .1 .0) (s .seated .clengths), (at-last (a .1 .1 .1 .1 .1 .0) (s .seated .cpayloads), (at-last (a .1 .1 .1 .1 .1 .1 .0) (s .noted .counters), (a .1 .1 .1 .1 .1 .1 .1 .0, (a .1 .1 .1 .1 .1 .1 .1 .1 .0, (a .1 .1 .1 .1 .1 .1 .1 .1 .1 .0, tt))))))))))) (p ∙ sym q))
+pub command-frames·command-request : Determined 8 command-frames·command-request·kinds.ps command-frames·command-request·kinds.r command-frames·command-request·reads.Learnt
+command-frames·command-request κs a x y u v p q = (ap (λ (s : Requested). s .answer) (p ∙ sym q), ap (λ (s : Requested). (at-last (a .0) (s .noted .skeys), (at-last (a .1 .0) (s .noted .sequences), (at-last (a .1 .1 .0) (s .seated .ckeys), (at-last (a .1 .1 .1 .0) (s .seated .ctypes), (at-last (a .1 .1 .1 .1 .0) (s .seated .clengths), (at-last (a .1 .1 .1 .1 .1 .0) (s .seated .cpayloads), (at-last (a .1 .1 .1 .1 .1 .1 .0) (s .noted .counters), (a .1 .1 .1 .1 .1 .1 .1 .0, (a .1 .1 .1 .1 .1 .1 .1 .1 .0, (a .1 .1 .1 .1 .1 .1 .1 .1 .1 .0, tt))))))))))) (p ∙ sym q))
 
-pub handlers·command·command-response : Determined 5 handlers·command·command-response·kinds.ps handlers·command·command-response·kinds.r handlers·command·command-response·reads.Learnt
-handlers·command·command-response κs a x y u v p q = (ap (λ (s : Answered). s .answer) (p ∙ sym q), ap (λ (s : Answered). (at-last (a .0) (s .ckeys), (a .1 .0, (a .1 .1 .0, (at-last (a .1 .1 .1 .0) (s .counters), (a .1 .1 .1 .1 .0, (a .1 .1 .1 .1 .1 .0, (a .1 .1 .1 .1 .1 .1 .0, tt)))))))) (p ∙ sym q))
+pub command-frames·command-response : Determined 5 command-frames·command-response·kinds.ps command-frames·command-response·kinds.r command-frames·command-response·reads.Learnt
+command-frames·command-response κs a x y u v p q = (ap (λ (s : Answered). s .answer) (p ∙ sym q), ap (λ (s : Answered). (at-last (a .0) (s .ckeys), (a .1 .0, (a .1 .1 .0, (at-last (a .1 .1 .1 .0) (s .counters), (a .1 .1 .1 .1 .0, (a .1 .1 .1 .1 .1 .0, (a .1 .1 .1 .1 .1 .1 .0, tt)))))))) (p ∙ sym q))
 
-pub handlers·plain·untabled : Determined 2 handlers·plain·untabled·kinds.ps handlers·plain·untabled·kinds.r handlers·plain·untabled·reads.Learnt
-handlers·plain·untabled κs a x y u v p q = (ap (λ (s : Counted). s .answer) (p ∙ sym q), ap (λ (s : Counted). (at-last (a .0) (s .counters), (a .1 .0, (a .1 .1 .0, (a .1 .1 .1 .0, (a .1 .1 .1 .1 .0, tt)))))) (p ∙ sym q))
+pub plain-frames·untabled : Determined 2 plain-frames·untabled·kinds.ps plain-frames·untabled·kinds.r plain-frames·untabled·reads.Learnt
+plain-frames·untabled κs a x y u v p q = (ap (λ (s : Counted). s .answer) (p ∙ sym q), ap (λ (s : Counted). (at-last (a .0) (s .counters), (a .1 .0, (a .1 .1 .0, (a .1 .1 .1 .0, (a .1 .1 .1 .1 .0, tt)))))) (p ∙ sym q))
 
 pub transport-receiver·Receiver·new : Determined 0 transport-receiver·Receiver·new·kinds.ps transport-receiver·Receiver·new·kinds.r transport-receiver·Receiver·new·reads.Learnt
 transport-receiver·Receiver·new κs a x y u v p q = (p ∙ sym q, refl)

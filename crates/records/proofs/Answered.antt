@@ -12,9 +12,9 @@ use Rattle.laws.specs.Bytes.{Bytes}
 use Rattle.laws.specs.Handed.{refused, value}
 use Rattle.tables.specs.Keys.{firstOf, overOf}
 use Rattle.sound_record.specs.Record.{written, soundAt}
-use Rattle.handlers.specs.Types
-use Rattle.handlers.specs.Stored.{commandKey}
-use Rattle.handlers.specs.Command.{commandResponseIn}
+use Rattle.answers.specs.Types
+use Rattle.answers.specs.Stored.{commandKey}
+use Rattle.command_frames.specs.Command.{commandResponseIn}
 use Rattle.transport_receiver.specs.State.{State, Frame, payloadAt, stateOf}
 use Rattle.transport_receiver.specs.Step.{Event, command, Outcome, silent, event, stepOf, overLimit}
 use Rattle.transport_receiver.specs.Step as step
@@ -22,8 +22,8 @@ use Rattle.transport_receiver.specs.Lent.{requestPayload, handledIn, stepIn}
 use Rattle.transport_receiver.specs.Handed.{handed}
 use Rattle.transport_receiver.specs.declared.Receiver.{Receiver}
 use Rattle.transport_receiver.specs.declared.Stepped.{Stepped}
-use Rattle.handlers.specs.declared.Answer.{Answer}
-use Rattle.handlers.specs.declared.Answer.the-variants.{OverLimit, InvalidGatewayID, WrongDirection, WrongLength, UnknownStatusType, TooShort, UnknownGateway, NumbersFull, SequencesFull, CommandsFull, NamesFrom, InvalidVersion, NoRequest, UnhandledType, PayloadTooLong, Counted, CommandKept, EnumerationStarted, IdentityObserved, VersionObserved, EnumerationEnded, SlotCounterCaptured, SlotCounterObserved, CommandExecuted}
+use Rattle.answers.specs.declared.Answer.{Answer}
+use Rattle.answers.specs.declared.Answer.the-variants.{OverLimit, InvalidGatewayID, WrongDirection, WrongLength, UnknownStatusType, TooShort, UnknownGateway, NumbersFull, SequencesFull, CommandsFull, NamesFrom, InvalidVersion, NoRequest, UnhandledType, PayloadTooLong, Counted, CommandKept, EnumerationStarted, IdentityObserved, VersionObserved, EnumerationEnded, SlotCounterCaptured, SlotCounterObserved, CommandExecuted}
 use Rattle.transport_receiver.proofs.Pool.{overLimit-places}
 use Rattle.laws.proofs.Cases.{by}
 use Rattle.transport_receiver.proofs.Refines.{Sized, refines}

@@ -13,10 +13,9 @@ use Rattle.laws.specs.Bytes.{be16At}
 use Rattle.address.specs.Address.{gatewayOf, addressOf}
 use Rattle.transport.specs.Status.{neededOf}
 use Rattle.tables.specs.Places.{valueAt}
-use Rattle.handlers.specs.Types
+use Rattle.answers.specs.Types
 use Rattle.transport_receiver.specs.State.{State, Frame, Command}
-use Rattle.transport_receiver.specs.Step.{Event, enumeration-started, identity, version, enumeration-ended, slot-captured, slot-counter, command, silent, event, Row, rowsOfAny, rowsOfType, judged, accepted, executedOf, stepOf, keyOf, statusOf}
-use Rattle.transport_receiver.specs.Reached.{isRefusal}
+use Rattle.transport_receiver.specs.Step.{isRefusal, Event, enumeration-started, identity, version, enumeration-ended, slot-captured, slot-counter, command, silent, event, Row, rowsOfAny, rowsOfType, judged, accepted, executedOf, stepOf, keyOf, statusOf}
 
 abbrev pub NoneHolds : List Row → Type 0
 NoneHolds [] = Unit {0}

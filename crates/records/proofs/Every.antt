@@ -26,7 +26,7 @@ use Rattle.event_record.specs.Event as kind
 use Rattle.event_record.proofs.Written.{length-framed}
 use Rattle.event_record.proofs.Commands.{length-command}
 use Rattle.event_record.proofs.Fit.{fits-started, fits-identity, fits-version, fits-ended, fits-captured, fits-counter, fits-command}
-use Rattle.handlers.specs.Types
+use Rattle.answers.specs.Types
 use Rattle.transport_receiver.specs.State.{State, Frame, Command, commandIn, stateOf}
 use Rattle.transport_receiver.specs.Step.{Event, identity, event, stepOf, overLimit, keyOf, statusOf}
 use Rattle.transport_receiver.specs.declared.Receiver.{Receiver}

@@ -11,7 +11,7 @@ use borrow.Author.Tests.{ltb-false}
 use Rattle.laws.specs.Bytes.{Bytes}
 use Rattle.tables.specs.Places.{Place, free, held, holder, seat, valueIn, placesFrom}
 use Rattle.sound_record.specs.Record.{written}
-use Rattle.handlers.specs.Types
+use Rattle.answers.specs.Types
 use Rattle.transport_receiver.specs.State.{State, Frame, Command, stateOf, fresh}
 use Rattle.transport_receiver.specs.Step.{Outcome, silent, event, Row, judged, accepted, stepOf, overLimit, keyOf, requestOf}
 use Rattle.transport_receiver.specs.Step as step

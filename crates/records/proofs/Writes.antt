@@ -23,7 +23,7 @@ use Rattle.event_record.proofs.Fit.{fits-counter}
 use Rattle.transport_receiver.specs.Step.{slot-counter}
 use Rattle.records.specs.Records.{Entry, entry, recordsOf, recordsIn, bytesOf, anyOver, anyUnsound, recordsHanded, recordsBytes}
 use Rattle.records.specs.Answers.{saidOf, eventSaid, eventIn, roomAfter}
-use Rattle.handlers.specs.declared.Answer.{Answer}
+use Rattle.answers.specs.declared.Answer.{Answer}
 use Rattle.records.specs.declared.Said.{Said}
 use Rattle.records.specs.declared.Room.the-variants.{Left, Short}
 use Rattle.records.proofs.Areas.{areaBytes, areaSpace, length-area, length-found, bytes-packet, space-packet, none-over, none-unsound, sound-found}

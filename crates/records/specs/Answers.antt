@@ -8,8 +8,8 @@ use lib.Dec.{ltb}
 use Rattle.transport_receiver.specs.Lent.{requestPayload}
 use Rattle.transport_receiver.specs.Step.{Event, enumeration-started, identity, version, enumeration-ended, slot-captured, slot-counter, command, Outcome, refused, short, silent, event, stepOf}
 use Rattle.transport_receiver.specs.State.{State, Frame}
-use Rattle.handlers.specs.declared.Answer.{Answer}
-use Rattle.handlers.specs.declared.Answer.the-variants.{OverLimit, InvalidGatewayID, WrongDirection, WrongLength, UnknownStatusType, TooShort, UnknownGateway, NumbersFull, SequencesFull, CommandsFull, NamesFrom, InvalidVersion, NoRequest, UnhandledType, PayloadTooLong, Counted, CommandKept, EnumerationStarted, IdentityObserved, VersionObserved, EnumerationEnded, SlotCounterCaptured, SlotCounterObserved, CommandExecuted}
+use Rattle.answers.specs.declared.Answer.{Answer}
+use Rattle.answers.specs.declared.Answer.the-variants.{OverLimit, InvalidGatewayID, WrongDirection, WrongLength, UnknownStatusType, TooShort, UnknownGateway, NumbersFull, SequencesFull, CommandsFull, NamesFrom, InvalidVersion, NoRequest, UnhandledType, PayloadTooLong, Counted, CommandKept, EnumerationStarted, IdentityObserved, VersionObserved, EnumerationEnded, SlotCounterCaptured, SlotCounterObserved, CommandExecuted}
 use Rattle.records.specs.Records.{Entry, recordsIn}
 use Rattle.records.specs.declared.Said.{Said}
 use Rattle.records.specs.declared.Said.the-variants as said

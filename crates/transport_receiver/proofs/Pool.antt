@@ -12,7 +12,7 @@ use Rattle.laws.proofs.Cases.{by}
 use Rattle.tables.specs.Keys.{firstOf, seatOf, overOf}
 use Rattle.tables.specs.Places.{Place, free, held, placeOf, placesFrom, placesOf, stored}
 use Rattle.tables.proofs.Places.{stored-places}
-use Rattle.handlers.specs.Stored.{commandKey}
+use Rattle.answers.specs.Stored.{commandKey}
 use Rattle.transport_receiver.specs.State.{Command, commandIn, payloadAt, roomOfCommand}
 use Rattle.transport_receiver.specs.Step.{isOver, overLimit}
 

@@ -17,13 +17,13 @@ use Rattle.transport.specs.Status.{acceptedOf, neededOf}
 use Rattle.transport.specs.Number.{numberOf}
 use Rattle.transport.specs.Response.{receiveReadOf, responseIn}
 use Rattle.address.specs.Address.{addressOf}
-use Rattle.handlers.specs.Counters
-use Rattle.handlers.specs.Types
-use Rattle.handlers.specs.Types.{counterOf}
-use Rattle.handlers.specs.Stored.{commandKey}
-use Rattle.handlers.specs.Receive.{receiveRequestIn, receiveResponseIn, goodIn}
-use Rattle.handlers.specs.Command.{isLastIn, noteIn, keepIn, commandRequestIn, commandResponseIn}
-use Rattle.handlers.specs.Plain.{identityIn, enumerationEndIn, versionIn, enumerationStartIn, countIn, untabledIn}
+use Rattle.answers.specs.Counters
+use Rattle.answers.specs.Types
+use Rattle.answers.specs.Types.{counterOf}
+use Rattle.answers.specs.Stored.{commandKey}
+use Rattle.receive_frames.specs.Receive.{receiveRequestIn, receiveResponseIn, goodIn}
+use Rattle.command_frames.specs.Command.{isLastIn, noteIn, keepIn, commandRequestIn, commandResponseIn}
+use Rattle.plain_frames.specs.Plain.{identityIn, enumerationEndIn, versionIn, enumerationStartIn, countIn, untabledIn}
 use Rattle.transport_receiver.specs.State.{State, Frame, stateOf, commandIn}
 use Rattle.transport_receiver.specs.Step.{Result, stepOf, handledOf, isLast, overLimit}
 use Rattle.transport_receiver.specs.Handed.{told}

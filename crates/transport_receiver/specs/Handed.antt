@@ -5,8 +5,8 @@ use lib.ListN.{take, drop}
 use Rattle.transport_receiver.specs.State.{Frame, stateOf, payloadAt}
 use Rattle.transport_receiver.specs.Step.{Event, enumeration-started, identity, version, enumeration-ended, slot-captured, slot-counter, command, Outcome, refused, short, silent, event, Result}
 use Rattle.transport_receiver.specs.declared.Stepped.{Stepped}
-use Rattle.handlers.specs.declared.Answer.{Answer}
-use Rattle.handlers.specs.declared.Answer.the-variants.{OverLimit, InvalidGatewayID, WrongDirection, WrongLength, UnknownStatusType, TooShort, UnknownGateway, NumbersFull, SequencesFull, CommandsFull, NamesFrom, InvalidVersion, NoRequest, UnhandledType, PayloadTooLong, Counted, CommandKept, EnumerationStarted, IdentityObserved, VersionObserved, EnumerationEnded, SlotCounterCaptured, SlotCounterObserved, CommandExecuted}
+use Rattle.answers.specs.declared.Answer.{Answer}
+use Rattle.answers.specs.declared.Answer.the-variants.{OverLimit, InvalidGatewayID, WrongDirection, WrongLength, UnknownStatusType, TooShort, UnknownGateway, NumbersFull, SequencesFull, CommandsFull, NamesFrom, InvalidVersion, NoRequest, UnhandledType, PayloadTooLong, Counted, CommandKept, EnumerationStarted, IdentityObserved, VersionObserved, EnumerationEnded, SlotCounterCaptured, SlotCounterObserved, CommandExecuted}
 
 -- an answer to a frame, with the pool of the state after it: what is a part of the payload or of the pool is that part
 abbrev pub handed : List ℕ → Frame → Answer → Outcome

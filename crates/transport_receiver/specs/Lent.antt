@@ -5,12 +5,12 @@ use mathlib.Core.List.{List, []}
 use lib.ListN.{length, replicate}
 use lib.Dec.{eqb, ltb}
 use Rattle.tables.specs.Keys.{overOf}
-use Rattle.handlers.specs.Types
-use Rattle.handlers.specs.Receive.{Asked, receiveRequestIn, Received, receiveResponseIn}
-use Rattle.handlers.specs.Command.{Noted, noted, Seated, Requested, commandRequestIn, Answered, commandResponseIn}
-use Rattle.handlers.specs.Plain.{Counted, untabledIn}
-use Rattle.handlers.specs.declared.Answer.{Answer}
-use Rattle.handlers.specs.declared.Answer.the-variants.{OverLimit, InvalidGatewayID, PayloadTooLong}
+use Rattle.answers.specs.Types
+use Rattle.receive_frames.specs.Receive.{Asked, receiveRequestIn, Received, receiveResponseIn}
+use Rattle.command_frames.specs.Command.{Noted, noted, Seated, Requested, commandRequestIn, Answered, commandResponseIn}
+use Rattle.plain_frames.specs.Plain.{Counted, untabledIn}
+use Rattle.answers.specs.declared.Answer.{Answer}
+use Rattle.answers.specs.declared.Answer.the-variants.{OverLimit, InvalidGatewayID, PayloadTooLong}
 use Rattle.transport_receiver.specs.State.{Frame, payloadAt}
 use Rattle.transport_receiver.specs.declared.Receiver.{Receiver}
 use Rattle.transport_receiver.specs.declared.Stepped.{Stepped}

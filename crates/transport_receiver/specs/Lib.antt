@@ -2,5 +2,3 @@ pub mod State
 pub mod Lent
 pub mod Step
 pub mod Handed
-pub mod Reached
-pub mod Source

@@ -12,11 +12,11 @@ use Rattle.utf8.specs.Scan.{isText}
 use Rattle.transport.specs.Status.{acceptedOf, neededOf, slotCounterAt}
 use Rattle.transport.specs.Number.{numberOf}
 use Rattle.tables.specs.Places.{Place, free, held, isHeld, hasRoom, stored, removed, valueAt}
-use Rattle.handlers.specs.Counters
-use Rattle.handlers.specs.Counters.{raise, countPackets}
-use Rattle.handlers.specs.Types
-use Rattle.handlers.specs.Types.{isOneOf, isNamed, invalidOf, counterOf}
-use Rattle.handlers.specs.Stored.{commandKey, repeats}
+use Rattle.answers.specs.Counters
+use Rattle.answers.specs.Counters.{raise, countPackets}
+use Rattle.answers.specs.Types
+use Rattle.answers.specs.Types.{isOneOf, isNamed, invalidOf, counterOf}
+use Rattle.answers.specs.Stored.{commandKey, repeats}
 use Rattle.transport_receiver.specs.State.{Command, State, Frame, roomOfCommand}
 
 -- 01, "Event record": what an event says; its gateway comes first
@@ -37,6 +37,13 @@ pub data Outcome : Type 0 where
   short : ℕ → Outcome
   silent : Outcome
   event : Event → Outcome
+
+-- a number of 01's table, 23 among them
+abbrev pub isRefusal : Outcome → Bool
+isRefusal (refused n) = true
+isRefusal (short n) = true
+isRefusal silent = false
+isRefusal (event e) = false
 
 pub record Result : Type 0 where
   pub outcome : Outcome

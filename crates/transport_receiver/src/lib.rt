@@ -1,6 +1,6 @@
 // The transport receiver (transport/receiver.rs): what a sound frame means.
 // The state is three tables of fixed size and 33 counters, held as arrays of numbers; specs/State.antt says what the arrays mean.
-// What each frame type does to them is in crates/handlers.
+// What each frame type does to them is in crates/receive_frames, crates/command_frames and crates/plain_frames.
 // `step_in` is lent the arrays; `Receiver::step` is the same by value.
 ghost use mathlib.Core.Path.{_≡_};
 ghost use Rattle.address.specs.Address.{isFrom, gatewayOf};
@@ -9,13 +9,13 @@ ghost use Rattle.transport_receiver.specs.Step.{stepOf};
 ghost use Rattle.transport_receiver.specs.Handed.{told};
 ghost use Rattle.transport_receiver.specs.Lent.{arrays, stepped, handledIn, stepIn, requestPayload, resetIn};
 use address::Address;
-pub use handlers::Answer;
-use handlers::command::command_request;
-use handlers::command::command_response;
-pub use handlers::counters;
-use handlers::plain::untabled;
-use handlers::receive::receive_request;
-use handlers::receive::receive_response;
+pub use answers::Answer;
+use command_frames::command_request;
+use command_frames::command_response;
+pub use answers::counters;
+use plain_frames::untabled;
+use receive_frames::receive_request;
+use receive_frames::receive_response;
 use link::Type;
 
 // The numbers of the types that touch a table.

@@ -1,0 +1,35 @@
+// Counters raised, and keys of places.
+ghost use mathlib.Core.Path.{_≡_};
+ghost use Prim.Native.Nat.{suc};
+ghost use Rattle.answers.specs.Counters.{raiseAt, addAt};
+ghost use Rattle.answers.specs.Stored.{commandKey};
+
+// One counter raised by `n`; past the last there is none.
+pub fn add(counters: &mut [u64; 33], i: usize, n: u64)
+    ensures { λ _. ⌜ now (counters .exit) ≡ addAt n i (now (counters .entry)) ⌝ }
+{
+    if i < 33 {
+        counters[i] = std::num::wrapping_add_u64(counters[i], n);
+    }
+}
+
+// One counter raised by one; past the last there is none.
+pub fn raise(counters: &mut [u64; 33], i: usize)
+    ensures { λ _. ⌜ now (counters .exit) ≡ raiseAt i (now (counters .entry)) ⌝ }
+{
+    add(counters, i, 1);
+}
+
+// The key of a gateway's place.
+pub fn gateway_key(gateway: u16) -> u32
+    ensures { λ r. ⌜ r ≡ suc gateway ⌝ }
+{
+    (gateway as u32) + 1
+}
+
+// The key of a command's place.
+pub fn command_key(gateway: u16, sequence: u8) -> u32
+    ensures { λ r. ⌜ r ≡ suc (commandKey gateway sequence) ⌝ }
+{
+    (gateway as u32) * 256 + (sequence as u32) + 1
+}

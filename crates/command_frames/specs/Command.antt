@@ -1,0 +1,92 @@
+-- What a command request and a command response do to the arrays that a function is lent. Assumes nothing.
+use Prim.Native.Nat.{ℕ, suc, _*_}
+use mathlib.Core.Bool.{Bool, false, cond}
+use mathlib.Core.List.{List}
+use lib.ListN.{length, getD, set, drop}
+use lib.Seq.{paste}
+use lib.Dec.{eqb, ltb}
+use Rattle.tables.specs.Keys.{firstOf, seatOf}
+use Rattle.answers.specs.Counters
+use Rattle.answers.specs.Counters.{raise}
+use Rattle.answers.specs.Stored.{commandKey}
+use Rattle.answers.specs.declared.Answer.{Answer}
+use Rattle.answers.specs.declared.Answer.the-variants.{PayloadTooLong, WrongDirection, WrongLength, SequencesFull, CommandsFull, NoRequest, CommandKept, CommandExecuted}
+
+-- the arrays of the waiting commands
+pub record Seated : Type 0 where
+  pub ckeys : List ℕ
+  pub ctypes : List ℕ
+  pub clengths : List ℕ
+  pub cpayloads : List ℕ
+
+unfoldable pub keepIn : Seated → ℕ → ℕ → List ℕ → Seated
+keepIn s i key p = record { ckeys = set (s .ckeys) i key; ctypes = set (s .ctypes) i (getD p 3 0); clengths = set (s .clengths) i (length (drop 5 p)); cpayloads = paste (s .cpayloads) (i * 245) (drop 5 p) (length (drop 5 p)) }
+
+-- the arrays of the last sequences, and the counters
+pub record Noted : Type 0 where
+  pub skeys : List ℕ
+  pub sequences : List ℕ
+  pub counters : List ℕ
+
+abbrev pub noted : List ℕ → List ℕ → List ℕ → Noted
+noted ks ss cs = record { skeys = ks; sequences = ss; counters = cs }
+
+unfoldable pub isLastIn : List ℕ → List ℕ → ℕ → ℕ → ℕ → Bool
+isLastIn ks ss q key s = cond (eqb (getD ks q 0) key) (eqb (getD ss q 0) s) false
+
+unfoldable pub noteIn : Noted → ℕ → ℕ → ℕ → Noted
+noteIn n q key s =
+    cond (isLastIn (n .skeys) (n .sequences) q key s)
+    (noted (n .skeys) (n .sequences) (raise Counters.retransmitted-command-requests (n .counters)))
+    (noted (set (n .skeys) q key) (set (n .sequences) q s) (raise Counters.command-requests (n .counters)))
+
+-- a command request
+pub record Requested : Type 0 where
+  pub answer : Answer
+  pub noted : Noted
+  pub seated : Seated
+
+abbrev pub requested : Answer → Noted → Seated → Requested
+requested a n s = record { answer = a; noted = n; seated = s }
+
+-- the same with the count of an invalid request
+abbrev pub invalid : Noted → Noted
+invalid n = noted (n .skeys) (n .sequences) (raise Counters.invalid-command-requests (n .counters))
+
+abbrev pub requestedAt : ℕ → ℕ → Noted → Seated → ℕ → List ℕ → Requested
+requestedAt q i n s g p =
+    cond (ltb q 32)
+    (cond (ltb i 64)
+    (requested CommandKept (noteIn n q (suc g) (getD p 4 0)) (keepIn s i (suc (commandKey g (getD p 4 0))) p))
+    (requested CommandsFull n s))
+    (requested SequencesFull n s)
+
+-- 01, "Numbers handed back": 32, payload over 250 given to transport, before 20, with nothing changed
+unfoldable pub commandRequestIn : Noted → Seated → Bool → ℕ → List ℕ → Requested
+commandRequestIn n s from g p =
+    cond (ltb 250 (length p)) (requested PayloadTooLong n s)
+    (cond from (requested WrongDirection (invalid n) s)
+    (cond (ltb (length p) 5) (requested WrongLength (invalid n) s)
+    (requestedAt (seatOf (n .skeys) (suc g)) (seatOf (s .ckeys) (suc (commandKey g (getD p 4 0)))) n s g p)))
+
+-- a command response
+pub record Answered : Type 0 where
+  pub answer : Answer
+  pub ckeys : List ℕ
+  pub counters : List ℕ
+
+abbrev pub answered : Answer → List ℕ → List ℕ → Answered
+answered a ks cs = record { answer = a; ckeys = ks; counters = cs }
+
+abbrev pub answeredAt : ℕ → List ℕ → List ℕ → List ℕ → List ℕ → List ℕ → Answered
+answeredAt i ks ts ls cs p =
+    cond (ltb i 64)
+    (answered (CommandExecuted i (getD ts i 0) (getD ls i 0) (getD p 3 0)) (set ks i 0) (raise Counters.command-responses cs))
+    (answered NoRequest ks (raise Counters.retransmitted-command-responses cs))
+
+unfoldable pub commandResponseIn : List ℕ → List ℕ → List ℕ → List ℕ → Bool → ℕ → List ℕ → Answered
+commandResponseIn ks ts ls cs from g p =
+    cond from
+    (cond (ltb (length p) 5) (answered WrongLength ks (raise Counters.invalid-command-responses cs))
+    (answeredAt (firstOf ks (suc (commandKey g (getD p 4 0)))) ks ts ls cs p))
+    (answered WrongDirection ks (raise Counters.invalid-command-responses cs))

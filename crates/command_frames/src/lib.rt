@@ -1,0 +1,158 @@
+// Command requests and responses: the tables of last sequences and of waiting commands.
+ghost use mathlib.Core.Path.{_≡_};
+ghost use Prim.Native.Nat.{_+_, _*_, _≤_, _<_};
+ghost use lib.ListN.{length, drop};
+ghost use lib.Seq.{paste};
+ghost use Rattle.command_frames.specs.Command.{Seated, keepIn, Noted, isLastIn, noteIn, Requested, commandRequestIn, Answered, commandResponseIn};
+use answers::Answer;
+use answers::counters::*;
+use answers::entries::command_key;
+use answers::entries::gateway_key;
+use answers::entries::raise;
+
+// `s` into `d` at `at`.
+fn copy_in(d: &mut [u8], at: usize, s: &[u8])
+    requires { ⌜ at + length (now s) ≤ length (now d) ⌝ }
+    ensures { λ _. ⌜ now (d .exit) ≡ paste (now (d .entry)) at (now (s .entry)) (length (now (s .entry))) ⌝ }
+{
+    bytes::copy(s, &mut d[at..]);
+}
+
+// A request's payload into place i of the pool; its length.
+fn keep_payload(cpayloads: &mut [u8; 15680], i: usize, payload: &[u8]) -> u8
+    requires { ⌜ (i < 64) × (5 ≤ length (now payload)) × (length (now payload) ≤ 250) ⌝ }
+    ensures { λ r. ⌜ (r ≡ length (drop 5 (now (payload .entry)))) × (now (cpayloads .exit) ≡ paste (now (cpayloads .entry)) (i * 245) (drop 5 (now (payload .entry))) (length (drop 5 (now (payload .entry))))) ⌝ }
+{
+    let t = &payload[5..];
+    copy_in(cpayloads, i * 245, t);
+    t.len() as u8
+}
+
+// A command request into place i of its table.
+fn keep(
+    ckeys: &mut [u32; 64],
+    ctypes: &mut [u8; 64],
+    clengths: &mut [u8; 64],
+    cpayloads: &mut [u8; 15680],
+    i: usize,
+    key: u32,
+    payload: &[u8],
+)
+    requires { ⌜ (i < 64) × (5 ≤ length (now payload)) × (length (now payload) ≤ 250) ⌝ }
+    ensures { λ _. ⌜ _≡_ {A = Seated} (record { ckeys = now (ckeys .exit); ctypes = now (ctypes .exit); clengths = now (clengths .exit); cpayloads = now (cpayloads .exit) }) (keepIn (record { ckeys = now (ckeys .entry); ctypes = now (ctypes .entry); clengths = now (clengths .entry); cpayloads = now (cpayloads .entry) }) i key (now (payload .entry))) ⌝ }
+{
+    ckeys[i] = key;
+    ctypes[i] = payload[3];
+    clengths[i] = keep_payload(cpayloads, i, payload);
+}
+
+// Whether place q holds the gateway's key and this sequence.
+fn is_last(skeys: &[u32; 32], sequences: &[u8; 32], q: usize, key: u32, sequence: u8) -> bool
+    requires { ⌜ q < 32 ⌝ }
+    ensures { λ r. ⌜ r ≡ isLastIn (now (skeys .entry)) (now (sequences .entry)) q key sequence ⌝ }
+{
+    if skeys[q] == key {
+        sequences[q] == sequence
+    } else {
+        false
+    }
+}
+
+// The gateway's last sequence noted at place q, and the request counted: as retransmitted if it was the last before.
+fn note(
+    skeys: &mut [u32; 32],
+    sequences: &mut [u8; 32],
+    counters: &mut [u64; 33],
+    q: usize,
+    key: u32,
+    sequence: u8,
+)
+    requires { ⌜ q < 32 ⌝ }
+    ensures { λ _. ⌜ _≡_ {A = Noted} (record { skeys = now (skeys .exit); sequences = now (sequences .exit); counters = now (counters .exit) }) (noteIn (record { skeys = now (skeys .entry); sequences = now (sequences .entry); counters = now (counters .entry) }) q key sequence) ⌝ }
+{
+    if is_last(skeys, sequences, q, key, sequence) {
+        raise(counters, RETRANSMITTED_COMMAND_REQUESTS);
+        return;
+    }
+    skeys[q] = key;
+    sequences[q] = sequence;
+    raise(counters, COMMAND_REQUESTS);
+}
+
+// A command request: kept under gateway and sequence, and its sequence noted as the gateway's last. Refused by 32, 20, 21, 26, 27, in this order.
+pub fn command_request(
+    skeys: &mut [u32; 32],
+    sequences: &mut [u8; 32],
+    ckeys: &mut [u32; 64],
+    ctypes: &mut [u8; 64],
+    clengths: &mut [u8; 64],
+    cpayloads: &mut [u8; 15680],
+    counters: &mut [u64; 33],
+    from: bool,
+    gateway: u16,
+    payload: &[u8],
+) -> Answer
+    ensures { λ r. ⌜ _≡_ {A = Requested} (record { answer = r; noted = record { skeys = now (skeys .exit); sequences = now (sequences .exit); counters = now (counters .exit) }; seated = record { ckeys = now (ckeys .exit); ctypes = now (ctypes .exit); clengths = now (clengths .exit); cpayloads = now (cpayloads .exit) } }) (commandRequestIn (record { skeys = now (skeys .entry); sequences = now (sequences .entry); counters = now (counters .entry) }) (record { ckeys = now (ckeys .entry); ctypes = now (ctypes .entry); clengths = now (clengths .entry); cpayloads = now (cpayloads .entry) }) from gateway (now (payload .entry))) ⌝ }
+{
+    if 250 < payload.len() {
+        return Answer::PayloadTooLong;
+    }
+    if from {
+        raise(counters, INVALID_COMMAND_REQUESTS);
+        return Answer::WrongDirection;
+    }
+    if payload.len() < 5 {
+        raise(counters, INVALID_COMMAND_REQUESTS);
+        return Answer::WrongLength;
+    }
+    let sequence = payload[4];
+    let gkey = gateway_key(gateway);
+    let q = tables::seat(skeys, gkey);
+    if q < 32 {
+        let ckey = command_key(gateway, sequence);
+        let i = tables::seat(ckeys, ckey);
+        if i < 64 {
+            keep(ckeys, ctypes, clengths, cpayloads, i, ckey, payload);
+            note(skeys, sequences, counters, q, gkey, sequence);
+            return Answer::CommandKept;
+        }
+        return Answer::CommandsFull;
+    }
+    Answer::SequencesFull
+}
+
+// A command response: takes its request out. Refused by 20, 21, 30, in this order.
+pub fn command_response(
+    ckeys: &mut [u32; 64],
+    ctypes: &[u8; 64],
+    clengths: &[u8; 64],
+    counters: &mut [u64; 33],
+    from: bool,
+    gateway: u16,
+    payload: &[u8],
+) -> Answer
+    ensures { λ r. ⌜ _≡_ {A = Answered} (record { answer = r; ckeys = now (ckeys .exit); counters = now (counters .exit) }) (commandResponseIn (now (ckeys .entry)) (now (ctypes .entry)) (now (clengths .entry)) (now (counters .entry)) from gateway (now (payload .entry))) ⌝ }
+{
+    if !from {
+        raise(counters, INVALID_COMMAND_RESPONSES);
+        return Answer::WrongDirection;
+    }
+    if payload.len() < 5 {
+        raise(counters, INVALID_COMMAND_RESPONSES);
+        return Answer::WrongLength;
+    }
+    let key = command_key(gateway, payload[4]);
+    let i = tables::find(ckeys, key);
+    if i < 64 {
+        ckeys[i] = tables::FREE;
+        raise(counters, COMMAND_RESPONSES);
+        return Answer::CommandExecuted {
+            place: i,
+            request: ctypes[i],
+            length: clengths[i],
+            response: payload[3],
+        };
+    }
+    raise(counters, RETRANSMITTED_COMMAND_RESPONSES);
+    Answer::NoRequest
+}

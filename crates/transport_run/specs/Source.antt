@@ -1,0 +1,73 @@
+-- The source's tables: maps with no limit (the `BTreeMap`s of transport/receiver.rs), by what a look-up gives, and what a frame does to them.
+-- Assumes nothing.
+use mathlib.Core.Path.{_≡_}
+use Prim.Native.Nat.{ℕ}
+use mathlib.Core.Bool.{Bool, true, false, cond, not, _&&_}
+use mathlib.Core.List.{List, [], _∷_}
+use mathlib.Core.Option.{Option, none, some}
+use lib.ListN.{length}
+use lib.Dec.{eqb, ltb}
+use Rattle.laws.specs.Bytes.{be16At}
+use Rattle.tables.specs.Places.{valueAt, inserted, deleted}
+use Rattle.transport.specs.Status.{acceptedOf, neededOf}
+use Rattle.transport.specs.Number.{numberOf}
+use Rattle.answers.specs.Types
+use Rattle.answers.specs.Types.{isOneOf}
+use Rattle.transport_receiver.specs.State.{State, Frame, Command, stateOf, fresh}
+use Rattle.transport_receiver.specs.Step.{stepOf, Outcome, refused, short, silent, event, statusOf, sequenceOf, keyOf, requestOf}
+
+pub record Maps : Type 0 where
+  pub numbers : ℕ → Option ℕ
+  pub sequences : ℕ → Option ℕ
+  pub commands : ℕ → Option Command
+
+abbrev pub noted : Maps → ℕ → ℕ → Maps
+noted m gateway number =
+    record { numbers = inserted (m .numbers) gateway number; sequences = m .sequences; commands = m .commands }
+
+-- receiver.rs, `receive_response`: an unknown gateway, or a response that cannot be read, changes nothing
+abbrev pub answered : Maps → Frame → Option ℕ → Maps
+answered m f none = m
+answered m f (some old) =
+    cond (ltb (length (f .payload)) 2) m
+    (cond (acceptedOf (statusOf f))
+    (cond (ltb (length (f .payload)) (neededOf (statusOf f))) m (noted m (f .gateway) (numberOf (statusOf f) (f .payload) old)))
+    m)
+
+abbrev pub requested : Maps → Frame → Maps
+requested m f =
+    record {
+      numbers = m .numbers;
+      sequences = inserted (m .sequences) (f .gateway) (sequenceOf (f .payload));
+      commands = inserted (m .commands) (keyOf f) (requestOf (f .payload));
+    }
+
+-- receiver.rs, `frame`: four types touch a map
+unfoldable pub sourceOf : Maps → Frame → Maps
+sourceOf m f =
+    cond (eqb (f .kind) Types.receive-request) (cond (f .from) m (cond (eqb (length (f .payload)) 5) (noted m (f .gateway) (be16At (f .payload) 2)) m))
+    (cond (eqb (f .kind) Types.receive-response) (cond (f .from) (answered m f (m .numbers (f .gateway))) m)
+    (cond (eqb (f .kind) Types.command-request) (cond (f .from) m (cond (ltb (length (f .payload)) 5) m (requested m f)))
+    (cond (eqb (f .kind) Types.command-response) (cond (f .from) (cond (ltb (length (f .payload)) 5) m (record { numbers = m .numbers; sequences = m .sequences; commands = deleted (m .commands) (keyOf f) })) m)
+    m)))
+
+-- 01, "What comes over": the refusals that are added, of those that a step gives: the source has none of them
+abbrev pub isAdded : Outcome → Bool
+isAdded (refused n) = isOneOf (12 ∷ 13 ∷ 25 ∷ 26 ∷ 27 ∷ 32 ∷ []) n
+isAdded (short n) = false
+isAdded silent = false
+isAdded (event e) = false
+
+-- a look-up of any key gives the same in the tables as in the maps
+pub record Agree (s : State) (m : Maps) : Type 0 where
+  pub numbers : (k : ℕ) → valueAt (s .numbers) k ≡ m .numbers k
+  pub sequences : (k : ℕ) → valueAt (s .sequences) k ≡ m .sequences k
+  pub commands : (k : ℕ) → valueAt (s .commands) k ≡ m .commands k
+
+abbrev pub noEntries : Maps
+noEntries = record { numbers = λ k. none; sequences = λ k. none; commands = λ k. none }
+
+-- the states that frames lead to from fresh with no added refusal on the way, and the source's maps after the same frames
+pub data Follows : State → Maps → Type 0 where
+  start : Follows (stateOf fresh) noEntries
+  on : {s : State} {m : Maps} → Follows s m → (f : Frame) → isAdded (stepOf s f .outcome) ≡ false → Follows (stepOf s f .state) (sourceOf m f)
