@@ -155,6 +155,14 @@ use Rattle.tables.proofs.seat.Kinds as tables·seat·kinds
 use Rattle.tables.proofs.seat.Reads as tables·seat·reads
 use Rattle.tables.proofs.over.Kinds as tables·over·kinds
 use Rattle.tables.proofs.over.Reads as tables·over·reads
+use Rattle.answers.proofs.entries.gateway_key.Kinds as answers·entries·gateway-key·kinds
+use Rattle.answers.proofs.entries.gateway_key.Reads as answers·entries·gateway-key·reads
+use Rattle.answers.proofs.entries.command_key.Kinds as answers·entries·command-key·kinds
+use Rattle.answers.proofs.entries.command_key.Reads as answers·entries·command-key·reads
+use Rattle.answers.proofs.entries.add.Kinds as answers·entries·add·kinds
+use Rattle.answers.proofs.entries.add.Reads as answers·entries·add·reads
+use Rattle.answers.proofs.entries.raise.Kinds as answers·entries·raise·kinds
+use Rattle.answers.proofs.entries.raise.Reads as answers·entries·raise·reads
 use Rattle.receive_frames.proofs.receive_request.Kinds as receive-frames·receive-request·kinds
 use Rattle.receive_frames.proofs.receive_request.Reads as receive-frames·receive-request·reads
 use Rattle.receive_frames.proofs.receive_response.Kinds as receive-frames·receive-response·kinds
@@ -429,6 +437,18 @@ tables·seat κs a x y u v p q = (p ∙ sym q, refl)
 
 pub tables·over : Determined 2 tables·over·kinds.ps tables·over·kinds.r tables·over·reads.Learnt
 tables·over κs a x y u v p q = (p ∙ sym q, refl)
+
+pub answers·entries·gateway-key : Determined 0 answers·entries·gateway-key·kinds.ps answers·entries·gateway-key·kinds.r answers·entries·gateway-key·reads.Learnt
+answers·entries·gateway-key κs a x y u v p q = (p ∙ sym q, refl)
+
+pub answers·entries·command-key : Determined 0 answers·entries·command-key·kinds.ps answers·entries·command-key·kinds.r answers·entries·command-key·reads.Learnt
+answers·entries·command-key κs a x y u v p q = (p ∙ sym q, refl)
+
+pub answers·entries·add : Determined 1 answers·entries·add·kinds.ps answers·entries·add·kinds.r answers·entries·add·reads.Learnt
+answers·entries·add κs a x y u v p q = (refl, ap (λ (z : List ℕ). (at-last (a .0) z, (a .1 .0, (a .1 .1 .0, tt)))) (p ∙ sym q))
+
+pub answers·entries·raise : Determined 1 answers·entries·raise·kinds.ps answers·entries·raise·kinds.r answers·entries·raise·reads.Learnt
+answers·entries·raise κs a x y u v p q = (refl, ap (λ (z : List ℕ). (at-last (a .0) z, (a .1 .0, tt))) (p ∙ sym q))
 
 pub receive-frames·receive-request : Determined 4 receive-frames·receive-request·kinds.ps receive-frames·receive-request·kinds.r receive-frames·receive-request·reads.Learnt
 receive-frames·receive-request κs a x y u v p q = (ap (λ (s : Asked). s .answer) (p ∙ sym q), ap (λ (s : Asked). (at-last (a .0) (s .nkeys), (at-last (a .1 .0) (s .numbers), (at-last (a .1 .1 .0) (s .counters), (a .1 .1 .1 .0, (a .1 .1 .1 .1 .0, (a .1 .1 .1 .1 .1 .0, tt))))))) (p ∙ sym q))
