@@ -3,10 +3,10 @@ ghost use mathlib.Core.Path.{_≡_};
 ghost use Prim.Native.Nat.{_<_};
 ghost use Rattle.answers.specs.Types.{counterOf};
 ghost use Rattle.plain_frames.specs.Plain.{counted, enumerationStartIn, identityIn, versionIn, enumerationEndIn, countIn, untabledIn};
+use address::GatewayID;
 use answers::Answer;
 use answers::counters::*;
 use answers::entries::raise;
-use address::GatewayID;
 use link::Type;
 use words::be16;
 

@@ -10,13 +10,13 @@ ghost use Rattle.transport_receiver.specs.Handed.{told};
 ghost use Rattle.transport_receiver.specs.Lent.{arrays, stepped, handledIn, stepIn, requestPayload, resetIn};
 use address::Address;
 pub use answers::Answer;
+pub use answers::counters;
 use command_frames::command_request;
 use command_frames::command_response;
-pub use answers::counters;
+use link::Type;
 use plain_frames::untabled;
 use receive_frames::receive_request;
 use receive_frames::receive_response;
-use link::Type;
 
 // The numbers of the types that touch a table.
 const RECEIVE_REQUEST: u16 = Type::RECEIVE_REQUEST.0;
