@@ -106,6 +106,10 @@ identify-responses = 31
 abbrev pub invalid-identify-responses : ℕ
 invalid-identify-responses = 32
 
+-- how many there are
+abbrev pub counterCount : ℕ
+counterCount = 33
+
 -- 01, "Transport": transport counters wrap at 2^64
 abbrev pub add : ℕ → ℕ → List ℕ → List ℕ
 add n i counters = set counters i ((getD counters i 0 + n) % 2 ^ 64)
@@ -115,10 +119,10 @@ raise i counters = set counters i (raised (getD counters i 0))
 
 -- the counter at a place, if there is one there
 abbrev pub addAt : ℕ → ℕ → List ℕ → List ℕ
-addAt n i counters = cond (ltb i 33) (add n i counters) counters
+addAt n i counters = cond (ltb i counterCount) (add n i counters) counters
 
 abbrev pub raiseAt : ℕ → List ℕ → List ℕ
-raiseAt i counters = cond (ltb i 33) (raise i counters) counters
+raiseAt i counters = cond (ltb i counterCount) (raise i counters) counters
 
 -- both packet counters are raised by the transport step itself, for the whole area, walked or not
 abbrev pub countPackets : List ℕ → List ℕ → List ℕ

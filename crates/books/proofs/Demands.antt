@@ -1,8 +1,10 @@
 -- THE DEMANDS, each closed by the work below it. What a reader needs beside this file: the grammar (reading/specs/Grammar.antt), its counts
--- (reading/specs/Counts.antt), the wire form (link/specs/Wire.antt) and what a host's run is (`Hosted` of link_feed/specs/Drain.antt).
+-- (reading/specs/Counts.antt), the wire form (link/specs/Wire.antt), what a host's run is (link_feed/specs/Hosts.antt) and what it is to be
+-- read back (books/specs/ReadBack.antt).
 -- Everything is over any check; the CRC is put in where the code's contracts name `crcOf`. Assumes nothing.
 use mathlib.Core.Path.{_≡_, refl, sym, _∙_, ap}
 use Prim.Native.Nat.{ℕ, _+_, _≤_, _<_, _^_}
+use mathlib.Core.Bool.{true}
 use mathlib.Core.List.{List, [], _∷_, _++_}
 use native.Mathlib.Omega.{arith}
 use lib.ListN.{length, take}
@@ -23,13 +25,15 @@ use Rattle.link_receive.specs.declared.State.the-variants as state
 use Rattle.link_receive.specs.Tally.{tallyOf, raise}
 use Rattle.link_receive.specs.Step.{limit, freshOf, openOf}
 use Rattle.link_feed.specs.Feed.{feedOf}
-use Rattle.link_feed.specs.Drain.{Hosted, drainOf, framesOf, framesFed}
-use Rattle.link_feed.proofs.Drains.{hosted-drain, hosted-frames}
+use Rattle.link_feed.specs.Drain.{drainOf, framesOf, framesFed}
+use Rattle.link_feed.specs.Hosts.{Hosted, handing}
+use Rattle.link_feed.proofs.Hosts.{hosted-drain, hosted-frames}
 use Rattle.books.specs.Stands.{restAt, Since, After}
+use Rattle.books.specs.ReadBack.{ReadsBack}
 use Rattle.books.proofs.Run.{since-more, frames-more, tallies-exact}
 use Rattle.books.proofs.Fresh.{fresh-after, fresh-frames}
 use Rattle.books.proofs.Ledgers.{tally-is, open-is}
-use Rattle.books.proofs.ReadBack.{ReadsBack, reads-back}
+use Rattle.books.proofs.ReadBack.{reads-back}
 use Rattle.books.proofs.Wrote.{Wrote, encode-wrote}
 
 -- DEMAND 3: the bytes divide in exactly one way by 01's grammar
@@ -37,8 +41,8 @@ pub one-reading : (bs : List ℕ) → TheReading limit bs (piecesOf limit bs)
 one-reading bs = the-reading limit bs
 
 module _ (check : List ℕ → ℕ) where
-  -- A host's run from fresh over bytes bs, in cuts of its own, fewer than 2^64 bytes and no reset: it ends with the receiver q, and fs are
-  -- the frames handed out. Whatever reading ps of the bytes there is (there is one):
+  -- A host's run from fresh over bytes bs, by whatever calls and in cuts of its own, fewer than 2^64 bytes and no reset: it ends with the
+  -- receiver q, and fs are the frames handed out. Whatever reading ps of the bytes there is (there is one):
   module _ (bs : List ℕ) (q : Receiver) (fs : List Frame) (run : Hosted check freshOf bs q fs) (few : length bs < 2 ^ 64) (ps : List Piece) (read : Reading limit bs ps) where
     after : After check bs (drainOf check freshOf bs)
     after = since-more check [] [] freshOf (fresh-after check) bs
@@ -49,10 +53,10 @@ module _ (check : List ℕ → ℕ) where
     ends : q ≡ drainOf check freshOf bs
     ends = hosted-drain check run
 
-    -- the frames handed out are the reading's sound frames, each once, in order
-    pub frames-are : fs ≡ soundFrames check ps
-    frames-are =
-        hosted-frames check run
+    -- the frames handed out are the reading's sound frames, each once, in order, if every call hands out those that it meets
+    pub frames-are : handing check run ≡ true → fs ≡ soundFrames check ps
+    frames-are all =
+        hosted-frames check run all
         ∙ sym (frames-more check [] [] freshOf (fresh-after check) bs ps read ∙ rw (fresh-frames check))
 
     -- each of the eight tallies is its count of pieces
@@ -86,4 +90,4 @@ module _ (check : List ℕ → ℕ) where
       → (take n (encodeBytes check a kind payload out-bytes) ≡ encodedOf check (frameFor a kind payload)) × ReadsBack check (frameFor a kind payload) r
   read-back a kind payload out-bytes n e r h l line outside =
       let w : Wrote check a kind payload out-bytes n = encode-wrote check a kind payload out-bytes n e in
-      (w .bytes, reads-back check (frameFor a kind payload) (omega (arith, w .within)) r h l line outside)
+      (w .bytes, reads-back check (frameFor a kind payload) (w .good) (omega (arith, w .within)) r h l line outside)

@@ -14,8 +14,13 @@ use Rattle.reading.proofs.Reader.{pieces, piecesOf}
 use Rattle.reading.proofs.Once.{the-reading}
 use Rattle.link_receive.specs.declared.Receiver.{Receiver}
 use Rattle.link_receive.specs.Tally.{tallyOf, zeros}
-use Rattle.link_receive.specs.Step.{limit, freshOf, resetOf}
+use Rattle.link_receive.specs.declared.Answer.the-variants.{Refused}
+use Rattle.link_receive.specs.Step.{limit, freshOf, resetOf, stepOf}
+use Rattle.link_feed.specs.Feed.{feedOf}
+use Rattle.link_feed.specs.Drain.{drainOf}
+use Rattle.link_feed.proofs.Drains.{feedOf-goes}
 use Rattle.books.specs.Stands.{restAt, Since, After}
+use Rattle.books.proofs.Run.{since-more}
 
 tallyOf-zeros : (j : Kind) → tallyOf j zeros ≡ 0
 tallyOf-zeros k.openings = refl
@@ -62,3 +67,12 @@ module _ (check : List ℕ → ℕ) where
         stands = a .stands;
         tallied = λ j. tallyOf-zeros j ∙ omega arith;
       })
+
+  -- `push_u8`: one byte more leads to the receiver that it hands back. (`absorb` and `give` say so by contract, `reset-since` of a reset)
+  pub step-since : (g h : List ℕ) (r : Receiver) (b : ℕ) → Since check g h r → Since check g (h ++ (b ∷ [])) (stepOf check r b .next)
+  unfolding drainOf
+  step-since g h r b a = since-more check g h r a (b ∷ [])
+
+  -- a receiver that bytes lead to is never refused by 12: no program meets it
+  pub since-answered : (g h : List ℕ) (r : Receiver) → Since check g h r → (s : List ℕ) → feedOf check r s .answer ≡ Refused → ⊥
+  since-answered g h r a s e = feedOf-goes check r s (a .within) .answers e

@@ -7,6 +7,7 @@ use mathlib.Core.List.{List, [], _∷_, _++_, append-nil}
 use native.Mathlib.Omega.{arith}
 use lib.ListN.{length, take, length-append}
 use Rattle.escaping.specs.Escapes.{meaning}
+use Rattle.address.specs.Address.{idLimit, gatewayOf}
 use Rattle.link.specs.Wire.{Frame, frameOf, bodyOf, encodedOf}
 use Rattle.link.proofs.Body.{frameOf-bodyOf}
 use Rattle.reading.specs.Kinds as k
@@ -35,6 +36,7 @@ use Rattle.link_receive.proofs.Steps.{stepOf-within}
 use Rattle.link_feed.proofs.Feeds.{feedOf-within}
 use Rattle.link_feed.proofs.Drains.{stepOf-steady, drainOf-append, framesOf-append}
 use Rattle.books.specs.Stands.{restOf, restAt}
+use Rattle.books.specs.ReadBack.{ReadsBack}
 use Rattle.books.proofs.Link.{raisedBy}
 use Rattle.books.proofs.Run.{Runs, runs}
 
@@ -72,16 +74,6 @@ append-none [] ys e = (refl, e)
 append-none (x ∷ xs) ys e = let z : _≡_ {A = ℕ} (suc (length (xs ++ ys))) 0 = ap length e in absurd (omega arith)
 
 module _ (check : List ℕ → ℕ) where
-  -- what is read back
-  pub record ReadsBack (f : Frame) (r : Receiver) : Type 0 where
-    pub frame : framesOf check r (encodedOf check f) ≡ f ∷ []
-    pub all-taken : feedOf check r (encodedOf check f) .taken ≡ length (encodedOf check f)
-    pub fed : framesFed (feedOf check r (encodedOf check f)) ≡ f ∷ []
-    pub next : feedOf check r (encodedOf check f) .next ≡ drainOf check r (encodedOf check f)
-    pub stands : drainOf check r (encodedOf check f) .state ≡ state.Idle
-    pub empty : drainOf check r (encodedOf check f) .len ≡ 0
-    pub tallies : drainOf check r (encodedOf check f) .tallies ≡ raise k.frames (raise k.openings (r .tallies))
-
   -- feeding over bytes that hand out nothing, and one byte more
   feed-on : (x : ℕ) (ys : List ℕ) (r : Receiver) (n : ℕ) → stepOf check r x .answer ≡ answer.Nothing → feedFrom check r (x ∷ ys) n ≡ feedFrom check (stepOf check r x .next) ys (n + 1)
   unfolding feedFrom
@@ -109,7 +101,7 @@ module _ (check : List ℕ → ℕ) where
       ∙ feed-quiet xs b q (n + 1) (t .within) (p .1)
       ∙ ap (feedFrom check (drainOf check q xs) (b ∷ [])) (omega arith)
 
-  module _ (f : Frame) (fits : length (f .payload) + 6 ≤ limit) (r : Receiver) (h : r .len ≤ limit) (l : length (r .body) ≡ limit) (line : Line) (outside : restAt r ≡ out line) where
+  module _ (f : Frame) (good : gatewayOf (f .address) ≤ idLimit) (fits : length (f .payload) + 6 ≤ limit) (r : Receiver) (h : r .len ≤ limit) (l : length (r .body) ≡ limit) (line : Line) (outside : restAt r ≡ out line) where
     abbrev bytes : List ℕ
     bytes = encodedOf check f
 
@@ -173,9 +165,9 @@ module _ (check : List ℕ → ℕ) where
 
     one-frame : framesOf check r bytes ≡ f ∷ []
     unfolding bodies
-    one-frame = runs check bytes r h l .hands ∙ rw (whole-run, frameOf-bodyOf check f)
+    one-frame = runs check bytes r h l .hands ∙ rw (whole-run, frameOf-bodyOf check f good)
 
-    pub reads-back : ReadsBack f r
+    pub reads-back : ReadsBack check f r
     unfolding raisedBy stateAt
     reads-back =
         let w : Runs check r bytes = runs check bytes r h l in

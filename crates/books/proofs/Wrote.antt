@@ -19,6 +19,7 @@ no-value : (m n : ℕ) → refused m ≡ value n → ⊥
 no-value m n e = let z : _≡_ {A = ℕ} 0 1 = cc in omega arith
 
 pub record Wrote (check : List ℕ → ℕ) (a : Address) (kind : ℕ) (payload out : List ℕ) (n : ℕ) : Type 0 where
+  pub good : gatewayOf a ≤ idLimit
   pub within : length payload ≤ payloadLimit
   pub bytes : take n (encodeBytes check a kind payload out) ≡ encodedOf check (frameFor a kind payload)
 
@@ -38,6 +39,7 @@ module _ (check : List ℕ → ℕ) (a : Address) (kind : ℕ) (payload out : Li
           let f : value (length wire) ≡ value n = rw (p, q, s) at e in
           let m : length wire ≡ n = cc in
           record {
+            good = ltb-false idLimit (gatewayOf a) p;
             within = ltb-false payloadLimit (length payload) q;
             bytes = rw (p, q, s, ← m) (take-append-seam wire (drop (length wire) out));
           }

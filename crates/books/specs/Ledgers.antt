@@ -7,7 +7,7 @@ use lib.ListN.{length}
 use lib.Dec.{ltb}
 use Rattle.reading.specs.Grammar.{Piece, TheReading}
 use Rattle.reading.specs.Counts.{ledgerOf}
-use Rattle.laws.specs.Handed.{Handed, refused, value}
+use Rattle.laws.specs.Handed.{Handed, refused, value, isRefusal}
 use Rattle.link_receive.specs.declared.Receiver.{Receiver}
 use Rattle.link_receive.specs.declared.Stepped.{Stepped}
 use Rattle.link_receive.specs.Step.{limit, openOf}
@@ -37,13 +37,17 @@ ledgerAt r =
       unfinished = openOf (r .state);
     }
 
-unfoldable pub toldOf : Receiver → Telling
-toldOf r = cond (ltb limit (r .len)) Refused (So (ledgerAt r))
-
 -- 01, "Numbers handed back", 12: state with a length over its limit
 abbrev pub handed : Telling → Handed (List ℕ)
 handed (So l) = value (numbersOf l)
 handed Refused = refused 12
+
+-- the telling that has 01's number n, if any has
+abbrev pub refusedBy : ℕ → Ledger → Telling
+refusedBy n l = cond (isRefusal n (handed Refused)) Refused (So l)
+
+unfoldable pub toldOf : Receiver → Telling
+toldOf r = cond (ltb limit (r .len)) (refusedBy 12 (ledgerAt r)) (So (ledgerAt r))
 
 module _ (check : List ℕ → ℕ) where
   -- the ledger of some bytes: there is exactly one reading of them, each number is its count of pieces, and openings balance endings

@@ -1,3 +1,4 @@
 pub mod Stands
 pub mod Ledgers
 pub mod Gives
+pub mod ReadBack

@@ -5,6 +5,7 @@ use mathlib.Core.List.{List}
 use lib.ListN.{length, getD, set, drop}
 use lib.Seq.{paste}
 use lib.Dec.{eqb, ltb}
+use Rattle.layouts.specs.Layouts.{commandRequestLength, commandResponseLength, requestType, requestSequence, requestData, responseType, responseSequence}
 use Rattle.tables.specs.Keys.{firstOf, seatOf}
 use Rattle.answers.specs.Counters
 use Rattle.answers.specs.Counters.{raise}
@@ -20,7 +21,7 @@ pub record Seated : Type 0 where
   pub cpayloads : List ℕ
 
 unfoldable pub keepIn : Seated → ℕ → ℕ → List ℕ → Seated
-keepIn s i key p = record { ckeys = set (s .ckeys) i key; ctypes = set (s .ctypes) i (getD p 3 0); clengths = set (s .clengths) i (length (drop 5 p)); cpayloads = paste (s .cpayloads) (i * 245) (drop 5 p) (length (drop 5 p)) }
+keepIn s i key p = record { ckeys = set (s .ckeys) i key; ctypes = set (s .ctypes) i (requestType p); clengths = set (s .clengths) i (length (requestData p)); cpayloads = paste (s .cpayloads) (i * 245) (requestData p) (length (requestData p)) }
 
 -- the arrays of the last sequences, and the counters
 pub record Noted : Type 0 where
@@ -57,7 +58,7 @@ abbrev pub requestedAt : ℕ → ℕ → Noted → Seated → ℕ → List ℕ �
 requestedAt q i n s g p =
     cond (ltb q 32)
     (cond (ltb i 64)
-    (requested CommandKept (noteIn n q (suc g) (getD p 4 0)) (keepIn s i (suc (commandKey g (getD p 4 0))) p))
+    (requested CommandKept (noteIn n q (suc g) (requestSequence p)) (keepIn s i (suc (commandKey g (requestSequence p))) p))
     (requested CommandsFull n s))
     (requested SequencesFull n s)
 
@@ -66,8 +67,8 @@ unfoldable pub commandRequestIn : Noted → Seated → Bool → ℕ → List ℕ
 commandRequestIn n s from g p =
     cond (ltb 250 (length p)) (requested PayloadTooLong n s)
     (cond from (requested WrongDirection (invalid n) s)
-    (cond (ltb (length p) 5) (requested WrongLength (invalid n) s)
-    (requestedAt (seatOf (n .skeys) (suc g)) (seatOf (s .ckeys) (suc (commandKey g (getD p 4 0)))) n s g p)))
+    (cond (ltb (length p) commandRequestLength) (requested WrongLength (invalid n) s)
+    (requestedAt (seatOf (n .skeys) (suc g)) (seatOf (s .ckeys) (suc (commandKey g (requestSequence p)))) n s g p)))
 
 -- a command response
 pub record Answered : Type 0 where
@@ -81,12 +82,12 @@ answered a ks cs = record { answer = a; ckeys = ks; counters = cs }
 abbrev pub answeredAt : ℕ → List ℕ → List ℕ → List ℕ → List ℕ → List ℕ → Answered
 answeredAt i ks ts ls cs p =
     cond (ltb i 64)
-    (answered (CommandExecuted i (getD ts i 0) (getD ls i 0) (getD p 3 0)) (set ks i 0) (raise Counters.command-responses cs))
+    (answered (CommandExecuted i (getD ts i 0) (getD ls i 0) (responseType p)) (set ks i 0) (raise Counters.command-responses cs))
     (answered NoRequest ks (raise Counters.retransmitted-command-responses cs))
 
 unfoldable pub commandResponseIn : List ℕ → List ℕ → List ℕ → List ℕ → Bool → ℕ → List ℕ → Answered
 commandResponseIn ks ts ls cs from g p =
     cond from
-    (cond (ltb (length p) 5) (answered WrongLength ks (raise Counters.invalid-command-responses cs))
-    (answeredAt (firstOf ks (suc (commandKey g (getD p 4 0)))) ks ts ls cs p))
+    (cond (ltb (length p) commandResponseLength) (answered WrongLength ks (raise Counters.invalid-command-responses cs))
+    (answeredAt (firstOf ks (suc (commandKey g (responseSequence p)))) ks ts ls cs p))
     (answered WrongDirection ks (raise Counters.invalid-command-responses cs))

@@ -1,6 +1,7 @@
 -- How the link receiver's state and answers cross a door. Assumes nothing.
 use Prim.Native.Nat.{ℕ, _*_, _^_}
 use mathlib.Core.List.{List, [], _∷_}
+use Rattle.laws.specs.Handed.{Handed, refused, value}
 use Rattle.address.specs.Handed.{numberHanded}
 use Rattle.link_receive.specs.declared.Receiver.{Receiver}
 use Rattle.link_receive.specs.declared.Answer.{Answer}
@@ -11,14 +12,27 @@ use Rattle.link_feed.specs.declared.Fed.{Fed}
 use Rattle.link_receive.specs.Step.{stepOf, freshOf, resetOf}
 use Rattle.link_feed.specs.Feed.{feedOf}
 use Rattle.link_feed.specs.Drain.{extendOf}
+use Rattle.link_receive.specs.Frames.{Given, nothing, frame, handed}
 use Rattle.link_receive.specs.Numbered.{receiverAt}
 use Rattle.doors.specs.Numbered.{numbered}
 
--- 0 for nothing, 1 for a frame, 2^32 times 12 for the refusal
+-- 0 for nothing, 1 for a frame, 2^32 times its number for a refusal
+abbrev pub givenAs : Given → ℕ
+givenAs nothing = 0
+givenAs (frame address t n) = 1
+
+abbrev pub crossing : Handed Given → ℕ
+crossing (value g) = givenAs g
+crossing (refused n) = n * 2 ^ 32
+
 abbrev pub told : Answer → ℕ
-told answer.Nothing = 0
-told (answer.Frame address t n) = 1
-told answer.Refused = 12 * 2 ^ 32
+told a = crossing (handed a)
+
+-- a step takes one byte, unless it is refused
+abbrev pub takenBy : Answer → ℕ
+takenBy answer.Nothing = 1
+takenBy (answer.Frame address t n) = 1
+takenBy answer.Refused = 0
 
 -- the bytes taken, and of a frame the 16 bits of its address and of its type and the length of its payload
 abbrev pub foundOf : ℕ → Answer → List ℕ

@@ -2,8 +2,8 @@
 // and the 256 bytes of its body, both lent and left as the call leaves them.
 ghost use mathlib.Core.Path.{_≡_};
 ghost use Rattle.link_receive.specs.Numbered.{receiverAt, placeOf};
-ghost use Rattle.link_feed.specs.Lent.{placeFed};
-ghost use Rattle.doors.specs.Receivers.{told, foundOf, pushedAt, fedAt, resetAt, heardOf};
+ghost use Rattle.link_feed.specs.Lent.{placeLeft, placeFed};
+ghost use Rattle.doors.specs.Receivers.{told, takenBy, foundOf, pushedAt, fedAt, resetAt, heardOf};
 use link_receive::Answer;
 use link_receive::Receiver;
 use link_receive::numbered::place_of;
@@ -53,18 +53,24 @@ pub extern "C" fn johkkesir_push_u8(
     b: u8,
 ) -> u64
     ensures { λ r. ⌜ r ≡ told (pushedAt (now (place .entry)) (now (body .entry)) b .answer) ⌝ }
-    ensures { λ _. ⌜ now (place .exit) ≡ placeOf (pushedAt (now (place .entry)) (now (body .entry)) b .next) ⌝ }
+    ensures { λ _. ⌜ now (place .exit) ≡ placeLeft (now (place .entry)) (pushedAt (now (place .entry)) (now (body .entry)) b .next) ⌝ }
     ensures { λ _. ⌜ now (body .exit) ≡ pushedAt (now (place .entry)) (now (body .entry)) b .next .body ⌝ }
-    ensures { λ _. ⌜ now (found .exit) ≡ foundOf 1 (pushedAt (now (place .entry)) (now (body .entry)) b .answer) ⌝ }
+    ensures { λ _. ⌜ now (found .exit) ≡ foundOf (takenBy (pushedAt (now (place .entry)) (now (body .entry)) b .answer)) (pushedAt (now (place .entry)) (now (body .entry)) b .answer) ⌝ }
 {
     let was = *place;
+    if 256 < was[1] {
+        let none = [0u64; 4];
+        *found = none;
+        return 12 << 32;
+    }
     let held = *body;
     let r = receiver_at(was, held);
     let f = r.push_u8(b);
     let next = f.next;
     let answer = f.answer;
     let units = next.body;
-    let numbers = place_of(next);
+    let put = place_of(next);
+    let numbers = put.place;
     let news = found_by(1, answer);
     *place = numbers;
     *body = units;
@@ -96,17 +102,21 @@ pub extern "C" fn johkkesir_feed(
 #[no_mangle]
 pub extern "C" fn johkkesir_reset_counters(place: &mut [u64; 10], body: &mut [u8; 256]) -> u64
     ensures { λ r. ⌜ r ≡ told (resetAt (now (place .entry)) (now (body .entry)) .answer) ⌝ }
-    ensures { λ _. ⌜ now (place .exit) ≡ placeOf (resetAt (now (place .entry)) (now (body .entry)) .next) ⌝ }
+    ensures { λ _. ⌜ now (place .exit) ≡ placeLeft (now (place .entry)) (resetAt (now (place .entry)) (now (body .entry)) .next) ⌝ }
     ensures { λ _. ⌜ now (body .exit) ≡ resetAt (now (place .entry)) (now (body .entry)) .next .body ⌝ }
 {
     let was = *place;
+    if 256 < was[1] {
+        return 12 << 32;
+    }
     let held = *body;
     let r = receiver_at(was, held);
     let f = r.reset_counters();
     let next = f.next;
     let answer = f.answer;
     let units = next.body;
-    let numbers = place_of(next);
+    let put = place_of(next);
+    let numbers = put.place;
     *place = numbers;
     *body = units;
     told_by(answer)
@@ -120,6 +130,7 @@ pub extern "C" fn johkkesir_ledger(s: &[u8], place: &mut [u64; 10])
     let r = Receiver::new();
     let f = link_feed::extend_from_slice(r, s);
     let next = f.next;
-    let numbers = place_of(next);
+    let put = place_of(next);
+    let numbers = put.place;
     *place = numbers;
 }

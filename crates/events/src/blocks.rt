@@ -134,7 +134,6 @@ pub fn take_block(
     let mut i = 0;
     while i < s.len() {
         let f = feed_from(place, body, s, i);
-        i = f.at;
         let answer = f.answer;
         log = take_answer(
             body,
@@ -151,6 +150,11 @@ pub fn take_block(
             out,
             log,
         );
+        let next = f.at;
+        if next <= i {
+            return log;
+        }
+        i = next;
     }
     log
 }

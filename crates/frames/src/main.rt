@@ -139,9 +139,13 @@ fn print_block(
     let mut i = 0;
     while i < s.len() {
         let f = feed_from(place, body, s, i);
-        i = f.at;
         let answer = f.answer;
         at = put_answer(out, at, body, answer);
+        let next = f.at;
+        if next <= i {
+            return at;
+        }
+        i = next;
     }
     at
 }

@@ -2,7 +2,7 @@
 use Prim.Native.Nat.{ℕ}
 use mathlib.Core.Bool.{Bool, true, false, cond}
 use mathlib.Core.List.{List, [], _∷_}
-use lib.ListN.{length, getD}
+use lib.ListN.{length, getD, take, drop}
 use lib.Dec.{eqb, ltb}
 use Rattle.laws.specs.Bytes.{be16At}
 use Rattle.laws.specs.Handed.{Handed, refused, value}
@@ -32,6 +32,9 @@ abbrev pub atLeast : ℕ → List ℕ → Length
 atLeast n payload = cond (ltb (length payload) n) Wrong Right
 
 -- 01, "Transport": command request 3 unknown, packet type, sequence (5)
+abbrev pub commandRequestLength : ℕ
+commandRequestLength = 5
+
 abbrev pub commandRequestIn : List ℕ → CommandRequest
 commandRequestIn p =
     record {
@@ -41,6 +44,9 @@ commandRequestIn p =
     }
 
 -- command response unknown, buffers free, unknown, packet type, sequence (5)
+abbrev pub commandResponseLength : ℕ
+commandResponseLength = 5
+
 abbrev pub commandResponseIn : List ℕ → CommandResponse
 commandResponseIn p =
     record {
@@ -52,6 +58,9 @@ commandResponseIn p =
     }
 
 -- receive request 2 unknown, packet number big-endian, 1 unknown (5, exactly)
+abbrev pub receiveRequestLength : ℕ
+receiveRequestLength = 5
+
 abbrev pub receiveRequestIn : List ℕ → ReceiveRequest
 receiveRequestIn p =
     record {
@@ -61,6 +70,12 @@ receiveRequestIn p =
     }
 
 -- identify and enumeration response long address (8) and gateway address (10, exactly)
+abbrev pub longAddressLength : ℕ
+longAddressLength = 8
+
+abbrev pub identifyResponseLength : ℕ
+identifyResponseLength = 10
+
 abbrev pub identifyResponseIn : List ℕ → IdentifyResponse
 identifyResponseIn p =
     record {
@@ -69,6 +84,9 @@ identifyResponseIn p =
     }
 
 -- enumeration start 4 unknown and an address (6, exactly)
+abbrev pub enumerationStartRequestLength : ℕ
+enumerationStartRequestLength = 6
+
 abbrev pub enumerationStartRequestIn : List ℕ → EnumerationStartRequest
 enumerationStartRequestIn p =
     record {
@@ -88,3 +106,36 @@ namedOf address = toGateway (addressOf (be16At address 0))
 abbrev pub handedNamed : Named → Handed ℕ
 handedNamed (Gateway g) = value (g .0)
 handedNamed FromAddress = refused 28
+
+-- WHAT THE STEP READS, each from its layout
+
+-- a command request's and a command response's packet type and sequence, and what follows them
+abbrev pub requestType : List ℕ → ℕ
+requestType p = commandRequestIn p .«packet_type» .0
+
+abbrev pub requestSequence : List ℕ → ℕ
+requestSequence p = commandRequestIn p .«sequence_number» .0
+
+abbrev pub requestData : List ℕ → List ℕ
+requestData p = drop commandRequestLength p
+
+abbrev pub responseType : List ℕ → ℕ
+responseType p = commandResponseIn p .«packet_type» .0
+
+abbrev pub responseSequence : List ℕ → ℕ
+responseSequence p = commandResponseIn p .«command_sequence_number» .0
+
+abbrev pub responseData : List ℕ → List ℕ
+responseData p = drop commandResponseLength p
+
+-- a receive request's packet number
+abbrev pub requestedNumber : List ℕ → ℕ
+requestedNumber p = receiveRequestIn p .«packet_number» .0
+
+-- an identify or enumeration response's long address, of a payload that has one: `longAddress-read` says that it is the layout's
+abbrev pub longAddress : List ℕ → List ℕ
+longAddress p = take longAddressLength p
+
+-- the address that an enumeration start names
+abbrev pub enumerationAddress : List ℕ → Address
+enumerationAddress p = addressOf (be16At (enumerationStartRequestIn p .«enumeration_address») 0)

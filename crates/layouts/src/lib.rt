@@ -1,6 +1,6 @@
 // The gateway transport layer's payloads of fixed and of least length (transport.rs).
 ghost use mathlib.Core.Path.{_≡_};
-ghost use Rattle.layouts.specs.Layouts.{exactly, atLeast, commandRequestIn, commandResponseIn, receiveRequestIn, identifyResponseIn, enumerationStartRequestIn, namedOf};
+ghost use Rattle.layouts.specs.Layouts.{exactly, atLeast, commandRequestLength, commandRequestIn, commandResponseLength, commandResponseIn, receiveRequestLength, receiveRequestIn, identifyResponseLength, identifyResponseIn, enumerationStartRequestLength, enumerationStartRequestIn, namedOf};
 use address::Address;
 use address::GatewayID;
 use network::LongAddress;
@@ -56,7 +56,7 @@ pub struct ReadCommandRequest {
 impl CommandRequest {
     // The request that a payload of at least 5 bytes starts with.
     pub fn read(payload: &[u8]) -> ReadCommandRequest
-        ensures { λ r. ⌜ r ≡ record { length = atLeast 5 (now (payload .entry)); request = commandRequestIn (now (payload .entry)) } ⌝ }
+        ensures { λ r. ⌜ r ≡ record { length = atLeast commandRequestLength (now (payload .entry)); request = commandRequestIn (now (payload .entry)) } ⌝ }
     {
         let length = least_length(payload, 5);
         let unknown = [
@@ -93,7 +93,7 @@ pub struct ReadCommandResponse {
 impl CommandResponse {
     // The response that a payload of at least 5 bytes starts with.
     pub fn read(payload: &[u8]) -> ReadCommandResponse
-        ensures { λ r. ⌜ r ≡ record { length = atLeast 5 (now (payload .entry)); response = commandResponseIn (now (payload .entry)) } ⌝ }
+        ensures { λ r. ⌜ r ≡ record { length = atLeast commandResponseLength (now (payload .entry)); response = commandResponseIn (now (payload .entry)) } ⌝ }
     {
         let length = least_length(payload, 5);
         let unknown_1 = byte_at(payload, 0);
@@ -128,7 +128,7 @@ pub struct ReadReceiveRequest {
 impl ReceiveRequest {
     // The request that a payload of exactly 5 bytes is.
     pub fn read(payload: &[u8]) -> ReadReceiveRequest
-        ensures { λ r. ⌜ r ≡ record { length = exactly 5 (now (payload .entry)); request = receiveRequestIn (now (payload .entry)) } ⌝ }
+        ensures { λ r. ⌜ r ≡ record { length = exactly receiveRequestLength (now (payload .entry)); request = receiveRequestIn (now (payload .entry)) } ⌝ }
     {
         let length = exact_length(payload, 5);
         let unknown_1 = [byte_at(payload, 0), byte_at(payload, 1)];
@@ -173,7 +173,7 @@ fn gateway_in(address: [u8; 2]) -> Named
 impl IdentifyResponse {
     // The response that a payload of exactly 10 bytes is.
     pub fn read(payload: &[u8]) -> ReadIdentifyResponse
-        ensures { λ r. ⌜ r ≡ record { length = exactly 10 (now (payload .entry)); response = identifyResponseIn (now (payload .entry)) } ⌝ }
+        ensures { λ r. ⌜ r ≡ record { length = exactly identifyResponseLength (now (payload .entry)); response = identifyResponseIn (now (payload .entry)) } ⌝ }
     {
         let length = exact_length(payload, 10);
         let long = [
@@ -219,7 +219,7 @@ pub struct ReadEnumerationStartRequest {
 impl EnumerationStartRequest {
     // The request that a payload of exactly 6 bytes is.
     pub fn read(payload: &[u8]) -> ReadEnumerationStartRequest
-        ensures { λ r. ⌜ r ≡ record { length = exactly 6 (now (payload .entry)); request = enumerationStartRequestIn (now (payload .entry)) } ⌝ }
+        ensures { λ r. ⌜ r ≡ record { length = exactly enumerationStartRequestLength (now (payload .entry)); request = enumerationStartRequestIn (now (payload .entry)) } ⌝ }
     {
         let length = exact_length(payload, 6);
         let unknown = [

@@ -3,7 +3,7 @@ ghost use mathlib.Core.Path.{_≡_};
 ghost use Rattle.crc.specs.Crc.{crcOf};
 ghost use Rattle.link_receive.specs.Step.{stepOf};
 ghost use Rattle.link_feed.specs.Feed.{feedOf};
-ghost use Rattle.lent.specs.Lent.{lentTo, Pushed, FedWith};
+ghost use Rattle.link_feed.specs.Tallies.{lentTo, Pushed, FedWith};
 use link_feed::Fed;
 use link_receive::Receiver;
 use link_receive::Stepped;

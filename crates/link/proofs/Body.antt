@@ -9,6 +9,8 @@ use lib.ListN.{length, getD, take, drop, length-append}
 use lib.Seq.{take-at, drop-at, getD-append-add}
 use Rattle.laws.specs.Bytes.{Bytes, Check16, be16, le16, of16, laidOver}
 use Rattle.laws.proofs.Bytes.{of16-be16, bytes-append, bytes-be16, bytes-le16}
+use Rattle.address.specs.Address.{idLimit, gatewayOf, numberOf}
+use Rattle.address.proofs.Laws.{addressOf-numberOf}
 use Rattle.escaping.proofs.Lengths.{length-escaped-le}
 use Rattle.link.specs.Wire.{Frame, startOf, checkedOf, bodyOf, frameOf, encodedOf, bodyLimit, payloadLimit}
 use Rattle.link.proofs.Writes.{length-wireOf}
@@ -48,8 +50,8 @@ module _ (check : List ℕ → ℕ) (f : Frame) where
       take-at (checkedOf f) (le16 (check (checkedOf f))) (length (bodyOf check f) - 2) e
 
   -- the frame that a body says is the one that it was made of
-  pub frameOf-bodyOf : frameOf (bodyOf check f) ≡ f
-  frameOf-bodyOf = rw (of16-be16 (f .address), of16-be16 (f .kind), bodyOf-checked)
+  pub frameOf-bodyOf : gatewayOf (f .address) ≤ idLimit → frameOf (bodyOf check f) ≡ f
+  frameOf-bodyOf h = rw (of16-be16 (numberOf (f .address)), addressOf-numberOf (f .address) h, of16-be16 (f .kind), bodyOf-checked)
 
   -- the last two bytes one by one, and the number that they spell
   pub getD-bodyOf-low : getD (bodyOf check f) (length (f .payload) + 4) 0 ≡ check (checkedOf f) % 256
@@ -66,9 +68,9 @@ module _ (check : List ℕ → ℕ) (f : Frame) where
   bodyOf-check-value = rw (getD-bodyOf-low, getD-bodyOf-high) (of16-be16 (check (checkedOf f)))
 
   -- a body is a list of bytes
-  module _ (a : f .address < 2 ^ 16) (k : f .kind < 2 ^ 16) (p : Bytes (f .payload)) where
+  module _ (a : numberOf (f .address) < 2 ^ 16) (k : f .kind < 2 ^ 16) (p : Bytes (f .payload)) where
     pub checkedOf-bytes : Bytes (checkedOf f)
-    checkedOf-bytes = bytes-append (be16 (f .address)) (be16 (f .kind) ++ f .payload) (bytes-be16 (f .address) a) (bytes-append (be16 (f .kind)) (f .payload) (bytes-be16 (f .kind) k) p)
+    checkedOf-bytes = bytes-append (be16 (numberOf (f .address))) (be16 (f .kind) ++ f .payload) (bytes-be16 (numberOf (f .address)) a) (bytes-append (be16 (f .kind)) (f .payload) (bytes-be16 (f .kind) k) p)
 
     pub bodyOf-bytes : Check16 check → Bytes (bodyOf check f)
     bodyOf-bytes h = bytes-append (checkedOf f) (le16 (check (checkedOf f))) checkedOf-bytes (bytes-le16 (check (checkedOf f)) (h (checkedOf f) checkedOf-bytes))
@@ -77,4 +79,4 @@ module _ (check : List ℕ → ℕ) (f : Frame) where
   pub length-encodedOf-le : length (f .payload) ≤ payloadLimit → length (encodedOf check f) ≤ 5 + 512 + 2
   unfolding encodedOf
   length-encodedOf-le h =
-      omega (arith, length-wireOf (startOf (f .address)) (bodyOf check f), length-startOf-le (f .address), length-escaped-le (bodyOf check f), length-bodyOf)
+      omega (arith, length-wireOf (startOf (numberOf (f .address))) (bodyOf check f), length-startOf-le (numberOf (f .address)), length-escaped-le (bodyOf check f), length-bodyOf)

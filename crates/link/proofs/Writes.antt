@@ -10,6 +10,7 @@ use borrow.Author.Tests.{lt-ltb, le-ltb}
 use Rattle.laws.specs.Bytes.{laidOver, be16, le16}
 use Rattle.laws.specs.Handed.{refused, value}
 use Rattle.laws.proofs.Lay.{laidOver-append, laidOver-paste, laidOver-take}
+use Rattle.address.specs.Address.{numberOf}
 use Rattle.escaping.specs.Escapes.{escaped}
 use Rattle.escaping.specs.Handed.{escapeBytes}
 use Rattle.escaping.proofs.Answers.{escapeBytes-fits, escapeBytes-narrow}
@@ -69,17 +70,17 @@ module _ (start body out last : List ℕ) (open₂ : length start + 2 ≤ length
       (whole .0, rw (q, take-append-drop, take-append-drop) (whole .1))
 
 -- three copies lay the body over a buffer, whatever the check
-pub assembled : (check : List ℕ → ℕ) (f : Frame) (body d₁ d₂ d₃ : List ℕ) (c h₁ l₁ h₂ l₂ l₃ h₃ : ℕ)
-    → h₁ ≡ f .address / 256 → l₁ ≡ f .address % 256 → h₂ ≡ f .kind / 256 → l₂ ≡ f .kind % 256
+pub assembled : (check : List ℕ → ℕ) (f : Frame) (m : ℕ) (body d₁ d₂ d₃ : List ℕ) (c h₁ l₁ h₂ l₂ l₃ h₃ : ℕ)
+    → numberOf (f .address) ≡ m → h₁ ≡ m / 256 → l₁ ≡ m % 256 → h₂ ≡ f .kind / 256 → l₂ ≡ f .kind % 256
     → d₁ ≡ paste body 0 (h₁ ∷ l₁ ∷ h₂ ∷ l₂ ∷ []) 4
     → d₂ ≡ paste d₁ 4 (f .payload) (length (f .payload))
     → c ≡ check (take (length (f .payload) + 4) d₂) → l₃ ≡ c % 256 → h₃ ≡ c / 256
     → d₃ ≡ paste d₂ (length (f .payload) + 4) (l₃ ∷ h₃ ∷ []) 2
     → d₃ ≡ laidOver (bodyOf check f) body
-assembled check f body d₁ d₂ d₃ c h₁ l₁ h₂ l₂ l₃ h₃ p₁ q₁ p₂ q₂ e₁ e₂ e q₃ p₃ e₃ =
-    let head : List ℕ = be16 (f .address) ++ be16 (f .kind) in
+assembled check f m body d₁ d₂ d₃ c h₁ l₁ h₂ l₂ l₃ h₃ num p₁ q₁ p₂ q₂ e₁ e₂ e q₃ p₃ e₃ =
+    let head : List ℕ = be16 (numberOf (f .address)) ++ be16 (f .kind) in
     let n : length (checkedOf f) ≡ length (f .payload) + 4 = omega arith in
-    let g₁ : d₁ ≡ laidOver head body = e₁ ∙ rw (p₁, q₁, p₂, q₂) (laidOver-paste [] head body) in
+    let g₁ : d₁ ≡ laidOver head body = e₁ ∙ rw (p₁, q₁, p₂, q₂, ← num) (laidOver-paste [] head body) in
     let g₂ : d₂ ≡ laidOver (checkedOf f) body = e₂ ∙ rw g₁ (laidOver-paste head (f .payload) body) in
     let g : c ≡ check (checkedOf f) = e ∙ rw g₂ (ap check (take-at (checkedOf f) (drop (length (checkedOf f)) body) (length (f .payload) + 4) n)) in
     e₃ ∙ rw (q₃, p₃, g, g₂, ← n) (laidOver-paste (checkedOf f) (le16 (check (checkedOf f))) body)

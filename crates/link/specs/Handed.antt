@@ -7,7 +7,7 @@ use lib.Seq.{paste}
 use lib.Dec.{ltb}
 use Rattle.laws.specs.Bytes.{laidOver}
 use Rattle.laws.specs.Handed.{Handed, refused, value}
-use Rattle.address.specs.Address.{idLimit, gatewayOf, numberOf}
+use Rattle.address.specs.Address.{idLimit, gatewayOf}
 use Rattle.address.specs.declared.Address.{Address}
 use Rattle.link.specs.Wire.{Frame, end, payloadLimit, encodedOf}
 use Rattle.link.specs.declared.Encoded.{Encoded}
@@ -33,7 +33,7 @@ bracketed start m out = paste (paste out 0 start (length start)) (length start +
 
 -- the frame of an address, a type and a payload
 abbrev pub frameFor : Address → ℕ → List ℕ → Frame
-frameFor a kind payload = record { address = numberOf a; kind = kind; payload = payload }
+frameFor a kind payload = record { address = a; kind = kind; payload = payload }
 
 module _ (check : List ℕ → ℕ) where
   -- 01, "Numbers handed back", 10: encode: payload over 250; then 11

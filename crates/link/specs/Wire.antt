@@ -6,10 +6,12 @@ use lib.ListN.{length, take, drop}
 use lib.Dec.{ltb}
 use Rattle.laws.specs.Bytes.{be16, le16, be16At}
 use Rattle.escaping.specs.Escapes.{escaped}
+use Rattle.address.specs.Address.{numberOf, addressOf}
+use Rattle.address.specs.declared.Address.{Address}
 
--- a frame: the 16 bits of its address, the 16 bits of its type, its payload
+-- a frame: its address (direction and gateway ID), the 16 bits of its type, its payload
 pub record Frame : Type 0 where
-  pub address : ℕ
+  pub address : Address
   pub kind : ℕ
   pub payload : List ℕ
 
@@ -23,7 +25,7 @@ end = 0x7e ∷ 0x08 ∷ []
 
 -- 01, "On the wire": a body is address (2, big-endian), type (2, big-endian), payload ..
 abbrev pub checkedOf : Frame → List ℕ
-checkedOf f = be16 (f .address) ++ (be16 (f .kind) ++ f .payload)
+checkedOf f = be16 (numberOf (f .address)) ++ (be16 (f .kind) ++ f .payload)
 
 -- 01, "The reading of a stream": closed by 7e 08 with at most 256 data units
 abbrev pub bodyLimit : ℕ
@@ -37,9 +39,13 @@ payloadLimit = bodyLimit - 6
 abbrev pub wireOf : List ℕ → List ℕ → List ℕ
 wireOf start body = start ++ (escaped body ++ end)
 
+-- a frame whose address has these 16 bits
+abbrev pub frameAt : ℕ → ℕ → List ℕ → Frame
+frameAt number kind payload = record { address = addressOf number; kind = kind; payload = payload }
+
 -- what a body of at least four bytes and a check says
 abbrev pub frameOf : List ℕ → Frame
-frameOf body = record { address = be16At body 0; kind = be16At body 2; payload = drop 4 (take (length body - 2) body) }
+frameOf body = frameAt (be16At body 0) (be16At body 2) (drop 4 (take (length body - 2) body))
 
 module _ (check : List ℕ → ℕ) where
   -- .. check of all that (2, little-endian)
@@ -48,4 +54,4 @@ module _ (check : List ℕ → ℕ) where
 
   -- the whole frame on the line
   unfoldable pub encodedOf : Frame → List ℕ
-  encodedOf f = wireOf (startOf (f .address)) (bodyOf f)
+  encodedOf f = wireOf (startOf (numberOf (f .address))) (bodyOf f)

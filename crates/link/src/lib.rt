@@ -6,7 +6,7 @@ ghost use lib.ListN.{length};
 ghost use lib.Seq.{paste};
 ghost use Rattle.laws.specs.Bytes.{laidOver};
 ghost use Rattle.crc.specs.Crc.{crcOf};
-ghost use Rattle.link.specs.Wire.{Frame, startOf, wireOf, bodyOf, bodyLimit};
+ghost use Rattle.link.specs.Wire.{frameAt, startOf, wireOf, bodyOf, bodyLimit};
 ghost use Rattle.link.specs.Handed.{handed, writtenHanded, writtenBytes, numberedHanded, numberedBytes, encodeHanded, encodeBytes, bracketed};
 use address::Address;
 use address::Numbered;
@@ -87,7 +87,7 @@ fn copy_in(d: &mut [u8], at: usize, s: &[u8])
 // Lays address, type, payload and their check over the start of `body`.
 fn assemble(body: &mut [u8], number: u16, kind: u16, payload: &[u8])
     requires { ⌜ length (now payload) + 6 ≤ length (now body) ⌝ }
-    ensures { λ _. ⌜ now (body .exit) ≡ laidOver (bodyOf crcOf (record { address = number; kind = kind; payload = now (payload .entry) })) (now (body .entry)) ⌝ }
+    ensures { λ _. ⌜ now (body .exit) ≡ laidOver (bodyOf crcOf (frameAt number kind (now (payload .entry)))) (now (body .entry)) ⌝ }
 {
     let head = [high(number), low(number), high(kind), low(kind)];
     copy_in(body, 0, &head);
@@ -147,8 +147,8 @@ fn write_body(number: u16, body: &[u8], out: &mut [u8]) -> Encoded
 
 // `encode` for an address that is good, by its 16 bits.
 fn encode_numbered(number: u16, kind: u16, payload: &[u8], out: &mut [u8]) -> Encoded
-    ensures answer { λ r. ⌜ handed r ≡ numberedHanded crcOf (record { address = number; kind = kind; payload = now (payload .entry) }) (length (now (out .entry))) ⌝ }
-    ensures bytes { λ _. ⌜ now (out .exit) ≡ numberedBytes crcOf (record { address = number; kind = kind; payload = now (payload .entry) }) (now (out .entry)) ⌝ }
+    ensures answer { λ r. ⌜ handed r ≡ numberedHanded crcOf (frameAt number kind (now (payload .entry))) (length (now (out .entry))) ⌝ }
+    ensures bytes { λ _. ⌜ now (out .exit) ≡ numberedBytes crcOf (frameAt number kind (now (payload .entry))) (now (out .entry)) ⌝ }
 {
     let n = payload.len();
     if PAYLOAD_LIMIT < n {

@@ -1,5 +1,4 @@
--- The drained run: cuts make no difference, and feeding again until the bytes are used up is the drained run; over any check.
--- Assumes nothing.
+-- The drained run: cuts make no difference, and a feeding, then the run of what it left, is the run; over any check. Assumes nothing.
 use mathlib.Core.Path.{_≡_, refl, sym, ap, _∙_}
 use mathlib.Core.Bool.{Bool, true, false, cond}
 use Prim.Native.Nat.{ℕ, zero, suc, _+_, _-_, _≤_, _<_}
@@ -24,7 +23,7 @@ use Rattle.link_feed.specs.declared.Fed.{Fed}
 use Rattle.link_receive.specs.Frames.{handedOut}
 use Rattle.link_receive.specs.Step.{limit, turnOf, closedOf, parsedOf, movedOf, refusedOf, quiet, stepOf}
 use Rattle.link_feed.specs.Feed.{stopped, fedOn, feedFrom, feedOf}
-use Rattle.link_feed.specs.Drain.{framesFed, drainOf, framesOf, extendOf, Hosted, used-up, feeds}
+use Rattle.link_feed.specs.Drain.{framesFed, drainOf, framesOf, extendOf}
 use Rattle.link_receive.proofs.Turns.{turnOf-push}
 use Rattle.link_receive.proofs.Steps.{stepOf-within, stepOf-over}
 use Rattle.link_feed.proofs.Feeds.{feedOf-over, feedOf-within}
@@ -199,43 +198,7 @@ module _ (check : List ℕ → ℕ) where
   drainOf-sized [] r h = refl
   drainOf-sized (b ∷ bs) r h = drainOf-sized bs (stepOf check r b .next) (stepOf-steady r b h .within) ∙ stepOf-steady r b h .sized
 
-  -- a host's run in any cuts ends in the drained run, with its frames
-  pub hosted-drain : {r q : Receiver} {s : List ℕ} {fs : List wire.Frame} → Hosted check r s q fs → q ≡ drainOf check r s
-  unfolding drainOf
-  hosted-drain used-up = refl
-  hosted-drain {r} (feeds first rest e h g) =
-      hosted-drain h
-      ∙ drainOf-append (drop (feedOf check r first .taken) first) rest (feedOf check r first .next)
-      ∙ rw (e, drainOf-append first rest r, drainOf-feed r first)
-
-  pub hosted-frames : {r q : Receiver} {s : List ℕ} {fs : List wire.Frame} → Hosted check r s q fs → fs ≡ framesOf check r s
-  unfolding framesOf
-  hosted-frames used-up = refl
-  hosted-frames {r} (feeds first rest e h g) =
-      rw (g, hosted-frames h, framesOf-append (drop (feedOf check r first .taken) first) rest (feedOf check r first .next), e, framesOf-append first rest r, framesOf-feed r first, drainOf-feed r first, append-assoc)
-
-  -- and there is one: feeding what is left again and again uses the bytes up
-  Hosts : ℕ → Type 0
-  Hosts n = (s : List ℕ) (r : Receiver) → r .len ≤ limit → length s ≤ n → Hosted check r s (drainOf check r s) (framesOf check r s)
-
-  hosted-more : (n : ℕ) → Hosts n → Hosts (suc n)
-  unfolding Hosts drainOf framesOf
-  hosted-more n ih [] r h m = used-up
-  hosted-more n ih (b ∷ bs) r h m =
-      let s : List ℕ = b ∷ bs in
-      let f : Fed = feedOf check r s in
-      let i : Goes r s f = feedOf-goes r s h in
-      let left : List ℕ = drop (f .taken) s in
-      let k : length left ≤ n = simp length-drop (omega (arith, i .some (omega arith), i .fits)) in
-      let on : Hosted check (f .next) (left ++ []) (drainOf check r s) (framesOf check (f .next) left) = rw (append-nil, i .drained) (ih left (f .next) (i .within) k) in
-      feeds {r = r} s [] (sym (append-nil s)) on (i .handed)
-
-  hosted-in : (n : ℕ) → Hosts n
-  unfolding Hosts drainOf framesOf
-  hosted-in zero [] r h m = used-up
-  hosted-in zero (b ∷ bs) r h m = absurd (not-suc-le-zero m)
-  hosted-in (suc n) s r h m = hosted-more n (hosted-in n) s r h m
-
-  pub hosted : (s : List ℕ) (r : Receiver) → r .len ≤ limit → Hosted check r s (drainOf check r s) (framesOf check r s)
-  unfolding Hosts
-  hosted s r h = hosted-in (length s) s r h (omega arith)
+  -- and so does a slice taken whole: the door of ledgers cites this
+  pub extendOf-within : (r : Receiver) (s : List ℕ) → r .len ≤ limit → extendOf check r s .next .len ≤ limit
+  unfolding extendOf
+  extendOf-within r s h = rw (le-ltb limit (r .len) h) (drainOf-within s r h)

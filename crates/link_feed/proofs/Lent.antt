@@ -20,7 +20,7 @@ use Rattle.link_receive.specs.Numbered.{talliesAt, tallyPlace, receiverAt, plac
 use Rattle.link_receive.proofs.Numbers.{receiverAt-placeOf}
 use Rattle.link_receive.specs.Step.{limit}
 use Rattle.link_feed.specs.Feed.{feedOf}
-use Rattle.link_feed.specs.Lent.{placeFed, startOf, placeAfter, reachedOf}
+use Rattle.link_feed.specs.Lent.{placeFed, startOf, reachedOf}
 use Rattle.link_feed.proofs.Feeds.{feedOf-over}
 use Rattle.link_feed.proofs.Drains.{feedOf-goes}
 
@@ -56,12 +56,6 @@ pub place-set : (l : List ℕ) (n m : ℕ) → length l ≡ 10 → set (set l 0 
 unfolding talliesAt
 place-set l n m h = rw (ten l h)
 
--- an answer that is no refusal leads on by what was taken: `place_after` cites this
-pub placeAfter-taken : (a : Answer) (n start taken : ℕ) → (a ≡ Refused → ⊥) → start + taken ≡ placeAfter a n start taken
-placeAfter-taken Nothing n start taken h = refl
-placeAfter-taken (Frame address t len) n start taken h = refl
-placeAfter-taken Refused n start taken h = absurd (h refl)
-
 -- a slice from where a feeding of it starts
 pub part-from : (s : List ℕ) (at : ℕ) → take (length s - startOf (length s) at) (drop (startOf (length s) at) s) ≡ drop at s
 part-from s at =
@@ -95,21 +89,9 @@ module _ (check : List ℕ → ℕ) (r : Receiver) where
         (λ e. rw e (omega (arith, fits, length-drop at s, ltb-true at (length s) e)))
         (λ e. rw e (omega (arith, fits, length-drop at s, ltb-false at (length s) e)))
 
-    placed : (a : Answer) → placeAfter a (length s) (startOf (length s) at) (f .taken) ≤ length s
-    placed Nothing = starts
-    placed (Frame address t n) = starts
-    placed Refused = omega arith
-
-    further : (a : Answer) → 0 < f .taken → at < length s → at < placeAfter a (length s) (startOf (length s) at) (f .taken)
-    further Nothing some h = rw (lt-ltb at (length s) h) (omega arith)
-    further (Frame address t n) some h = rw (lt-ltb at (length s) h) (omega arith)
-    further Refused some h = h
-
-    -- a feeding from a place on reaches one that is further on, and none past the slice's end: the programs' loops end by this
-    pub reached : (at < length s → at < reachedOf s at f .at) × (reachedOf s at f .at ≤ length s)
+    -- a feeding from a place on reaches none past the slice's end, and, unless 12 refuses it, one that is further on
+    pub reached : (r .len ≤ limit → at < length s → at < reachedOf s at f .at) × (reachedOf s at f .at ≤ length s)
     reached = (
-      (λ h. by (ltb limit (r .len))
-          (λ e. rw (feedOf-over check r (drop at s) (ltb-true limit (r .len) e)) h)
-          (λ e. further (f .answer) (feedOf-goes check r (drop at s) (ltb-false limit (r .len) e) .some (omega (arith, length-drop at s))) h)),
-      placed (f .answer),
+      (λ w h. let some = feedOf-goes check r (drop at s) w .some (omega (arith, length-drop at s)) in rw (lt-ltb at (length s) h) (omega arith)),
+      starts,
     )

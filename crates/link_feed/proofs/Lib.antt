@@ -4,3 +4,5 @@ pub mod Skips
 pub mod Lent
 pub mod Onwards
 pub mod Goings
+pub mod Hosts
+pub mod Tallies

@@ -1,9 +1,7 @@
 -- A stream taken whole, through every frame on the way, over any check. Assumes nothing.
-use mathlib.Core.Path.{_≡_}
 use Prim.Native.Nat.{ℕ}
 use mathlib.Core.Bool.{Bool, true, false, cond}
 use mathlib.Core.List.{List, [], _∷_, _++_}
-use lib.ListN.{drop}
 use lib.Dec.{ltb}
 use Rattle.link.specs.Wire.{Frame}
 use Rattle.link_receive.specs.declared.Receiver.{Receiver}
@@ -11,7 +9,6 @@ use Rattle.link_receive.specs.declared.Stepped.{Stepped}
 use Rattle.link_feed.specs.declared.Fed.{Fed}
 use Rattle.link_receive.specs.Frames.{handedOut}
 use Rattle.link_receive.specs.Step.{limit, refusedOf, quiet, stepOf}
-use Rattle.link_feed.specs.Feed.{feedOf}
 
 -- what a feeding hands out
 abbrev pub framesFed : Fed → List Frame
@@ -31,14 +28,3 @@ module _ (check : List ℕ → ℕ) where
   -- a slice taken whole; 12 if the length is over the limit
   unfoldable pub extendOf : Receiver → List ℕ → Stepped
   extendOf r s = cond (ltb limit (r .len)) (refusedOf r) (quiet (drainOf r s))
-
-  -- a host's run, in cuts of its own: it feeds a first part of the bytes that are left, and goes on after those that were taken.
-  -- It begins with a receiver and its bytes, and ends with a receiver and the frames handed out, in order.
-  pub data Hosted : Receiver → List ℕ → Receiver → List Frame → Type 0 where
-    used-up : {r : Receiver} → Hosted r [] r []
-    feeds :
-        {r q : Receiver} {s : List ℕ} {fs gs : List Frame} (first rest : List ℕ) →
-        s ≡ first ++ rest →
-        Hosted (feedOf check r first .next) (drop (feedOf check r first .taken) first ++ rest) q fs →
-        gs ≡ framesFed (feedOf check r first) ++ fs →
-        Hosted r s q gs

@@ -8,6 +8,7 @@ use Rattle.link_receive.specs.declared.Answer.the-variants.{Nothing, Frame, Ref
 use Rattle.link_receive.specs.declared.Receiver.{Receiver}
 use Rattle.link_receive.specs.declared.Stepped.{Stepped}
 use Rattle.link_feed.specs.declared.Fed.{Fed}
+use Rattle.link_receive.specs.Frames.{refusedBy}
 use Rattle.link_receive.specs.Step.{limit, stepOf}
 
 -- stopped at an answer, with so many bytes taken
@@ -28,4 +29,4 @@ module _ (check : List ℕ → ℕ) where
 
   -- 12 if its length is over the limit: nothing is taken, of an empty slice too
   unfoldable pub feedOf : Receiver → List ℕ → Fed
-  feedOf r s = cond (ltb limit (r .len)) (stopped r Refused 0) (feedFrom r s 0)
+  feedOf r s = cond (ltb limit (r .len)) (stopped r (refusedBy 12) 0) (feedFrom r s 0)

@@ -4,8 +4,7 @@ use mathlib.Core.Bool.{cond}
 use mathlib.Core.List.{List}
 use lib.ListN.{length, getD}
 use lib.Dec.{ltb}
-use Rattle.link_receive.specs.declared.Answer.{Answer}
-use Rattle.link_receive.specs.declared.Answer.the-variants.{Nothing, Frame, Refused}
+use Rattle.link_receive.specs.declared.Receiver.{Receiver}
 use Rattle.link_receive.specs.Numbered.{placeOf}
 use Rattle.link_receive.specs.Step.{limit}
 use Rattle.link_feed.specs.declared.Fed.{Fed}
@@ -16,19 +15,17 @@ use Rattle.link_feed.specs.declared.Reached.{Reached}
 abbrev pub fedInOf : Fed → FedIn
 fedInOf f = record { answer = f .answer; taken = f .taken }
 
--- the ten numbers after a feeding: 12 leaves them as they were, a number that is none of the states' too
+-- the ten numbers after a call that led to a receiver: 12 leaves them as they were, a number that is none of the states' too
+abbrev pub placeLeft : List ℕ → Receiver → List ℕ
+placeLeft place r = cond (ltb limit (getD place 1 0)) place (placeOf r)
+
 abbrev pub placeFed : List ℕ → Fed → List ℕ
-placeFed place f = cond (ltb limit (getD place 1 0)) place (placeOf (f .next))
+placeFed place f = placeLeft place (f .next)
 
 -- where a feeding from a place on starts in a slice of so many bytes: at its end at the latest
 abbrev pub startOf : ℕ → ℕ → ℕ
 startOf n at = cond (ltb at n) at n
 
--- the place that it reaches; where 12 refuses it, the slice's end, so that whoever goes on from there comes to an end
-abbrev pub placeAfter : Answer → ℕ → ℕ → ℕ → ℕ
-placeAfter Nothing n start taken = start + taken
-placeAfter (Frame address t len) n start taken = start + taken
-placeAfter Refused n start taken = n
-
+-- the place that it reaches: where 12 refuses it, the one where it starts
 abbrev pub reachedOf : List ℕ → ℕ → Fed → Reached
-reachedOf s at f = record { answer = f .answer; at = placeAfter (f .answer) (length s) (startOf (length s) at) (f .taken) }
+reachedOf s at f = record { answer = f .answer; at = startOf (length s) at + f .taken }

@@ -1,11 +1,11 @@
 // A receiver that is lent: ten numbers (the state's own, the length, and the eight tallies in the ledger's order) and the 256 bytes of its body.
 ghost use mathlib.Core.Path.{_≡_};
-ghost use Prim.Native.Nat.{_+_, _≤_, _<_};
+ghost use Prim.Native.Nat.{_≤_};
 ghost use lib.ListN.{length, drop};
 ghost use Rattle.crc.specs.Crc.{crcOf};
 ghost use Rattle.link_receive.specs.Numbered.{receiverAt};
 ghost use Rattle.link_feed.specs.Feed.{feedOf};
-ghost use Rattle.link_feed.specs.Lent.{placeFed, fedInOf, startOf, placeAfter, reachedOf};
+ghost use Rattle.link_feed.specs.Lent.{placeFed, fedInOf, startOf, reachedOf};
 use crate::FedIn;
 use crate::Reached;
 use crate::feeding::advance;
@@ -47,29 +47,18 @@ fn start_of(n: usize, at: usize) -> usize
     if at < n { at } else { n }
 }
 
-// The place that it reaches: the slice's end where 12 refuses it.
-fn place_after(answer: Answer, n: usize, start: usize, taken: usize) -> usize
-    requires { ⌜ start + taken ≤ n ⌝ }
-    ensures { λ r. ⌜ r ≡ placeAfter answer n start taken ⌝ }
-{
-    match answer {
-        Answer::Refused => n,
-        _ => start + taken,
-    }
-}
-
-// `feed_in` from a place of a slice on, with the place that it reaches. A loop over the slice ends, whatever receiver is lent to it.
+// `feed_in` from a place of a slice on, with the place that it reaches: where 12 refuses it, the one where it starts.
 pub fn feed_from(place: &mut [u64; 10], body: &mut [u8; 256], s: &[u8], at: usize) -> Reached
     ensures answer { λ r. ⌜ r ≡ reachedOf (now (s .entry)) at (feedOf crcOf (receiverAt (now (place .entry)) (now (body .entry))) (drop at (now (s .entry)))) ⌝ }
     ensures numbers { λ _. ⌜ now (place .exit) ≡ placeFed (now (place .entry)) (feedOf crcOf (receiverAt (now (place .entry)) (now (body .entry))) (drop at (now (s .entry)))) ⌝ }
     ensures units { λ _. ⌜ now (body .exit) ≡ feedOf crcOf (receiverAt (now (place .entry)) (now (body .entry))) (drop at (now (s .entry))) .next .body ⌝ }
-    ensures onward { λ r. ⌜ (at < length (now (s .entry)) → at < r .at) × (r .at ≤ length (now (s .entry))) ⌝ }
+    ensures within { λ r. ⌜ r .at ≤ length (now (s .entry)) ⌝ }
 {
     let n = s.len();
     let start = start_of(n, at);
     let f = feed_in(place, body, &s[start..]);
     let answer = f.answer;
-    let reached = place_after(answer, n, start, f.taken);
+    let reached = start + f.taken;
     Reached {
         answer: answer,
         at: reached,

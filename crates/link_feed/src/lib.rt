@@ -69,8 +69,17 @@ struct Advanced {
 pub fn feed(r: Receiver, s: &[u8]) -> Fed
     ensures { λ f. ⌜ f ≡ feedOf crcOf r (now (s .entry)) ⌝ }
 {
+    let len = r.len;
+    if Receiver::MAX_FRAME_SIZE < len {
+        return Fed {
+            next: r,
+            answer: Answer::Refused,
+            taken: 0,
+        };
+    }
     let mut body = r.body;
-    let mut place = place_of(r);
+    let put = place_of(r);
+    let mut place = put.place;
     let f = feed_in(&mut place, &mut body, s);
     let answer = f.answer;
     let next = receiver_at(place, body);
@@ -94,7 +103,8 @@ pub fn extend_from_slice(r: Receiver, s: &[u8]) -> Stepped
     }
     let state = r.state;
     let mut body = r.body;
-    let mut place = place_of(r);
+    let put = place_of(r);
+    let mut place = put.place;
     let a = advance(state, len, &mut place, &mut body, s, 0, false);
     let last = a.state;
     place[0] = state_number(last);

@@ -66,8 +66,7 @@ module _ (check : List ℕ → ℕ) where
       let f = parsedOf-says s address t e in
       let p : addressOf (be16At s 0) ≡ address = cc in
       let q : be16At s 2 ≡ t .0 = ap kindOf f in
-      let a : numberOf address ≡ be16At s 0 = ap numberOf (sym p) ∙ numberOf-addressOf (be16At s 0) in
-      rw (a, ← q, payloadOf-body body len h (sound-units check body len address t h e))
+      rw (p, ← q, payloadOf-body body len h (sound-units check body len address t h e))
     where
       kindOf : Parsed → ℕ
       kindOf (Sound address t) = t .0

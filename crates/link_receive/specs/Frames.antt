@@ -2,8 +2,8 @@
 use Prim.Native.Nat.{ℕ}
 use mathlib.Core.List.{List, [], _∷_}
 use lib.ListN.{take, drop}
-use Rattle.laws.specs.Handed.{Handed, refused, value}
-use Rattle.address.specs.Address.{numberOf}
+use mathlib.Core.Bool.{cond}
+use Rattle.laws.specs.Handed.{Handed, refused, value, isRefusal}
 use Rattle.address.specs.declared.Address.{Address}
 use Rattle.link.specs.Wire as wire
 use Rattle.link_receive.specs.declared.Answer.{Answer}
@@ -20,6 +20,10 @@ handed Nothing = value nothing
 handed (Frame address t n) = value (frame address (t .0) n)
 handed Refused = refused 12
 
+-- the answer that has 01's number n; `Nothing`, where none has
+abbrev pub refusedBy : ℕ → Answer
+refusedBy n = cond (isRefusal n (handed Refused)) Refused Nothing
+
 -- the payload in a body: what follows address and type
 abbrev pub payloadOf : ℕ → List ℕ → List ℕ
 payloadOf n body = take n (drop 4 body)
@@ -27,5 +31,5 @@ payloadOf n body = take n (drop 4 body)
 -- the frames that an answer hands out beside a body: none, or one
 abbrev pub handedOut : Answer → List ℕ → List wire.Frame
 handedOut Nothing body = []
-handedOut (Frame address t n) body = record { address = numberOf address; kind = t .0; payload = payloadOf n body } ∷ []
+handedOut (Frame address t n) body = record { address = address; kind = t .0; payload = payloadOf n body } ∷ []
 handedOut Refused body = []

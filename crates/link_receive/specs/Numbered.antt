@@ -2,15 +2,19 @@
 use Prim.Native.Nat.{ℕ}
 use mathlib.Core.Bool.{cond}
 use mathlib.Core.List.{List, [], _∷_}
-use lib.ListN.{getD}
-use lib.Dec.{eqb}
+use lib.ListN.{getD, replicate}
+use lib.Dec.{eqb, ltb}
 use Rattle.link_receive.specs.declared.State.{State}
 use Rattle.link_receive.specs.declared.State.the-variants.{Idle, Noise, StartOfFrame, Frame, FrameEscape, Giant, GiantEscape}
 use Rattle.link_receive.specs.declared.Receiver.{Receiver}
 use Rattle.link_receive.specs.declared.Tallies.{Tallies}
 use Rattle.link_receive.specs.declared.Tally.{Tally}
 use Rattle.link_receive.specs.declared.Tally.the-variants as tally
+use Rattle.link_receive.specs.declared.Answer.the-variants.{Nothing}
+use Rattle.link_receive.specs.declared.numbered.Placed.{Placed}
 use Rattle.link_receive.specs.Tally.{eightOf}
+use Rattle.link_receive.specs.Frames.{refusedBy}
+use Rattle.link_receive.specs.Step.{limit}
 
 -- the states by their numbers; any number above 5 stands for the last
 unfoldable pub stateAt : ℕ → State
@@ -61,3 +65,9 @@ receiverAt place body = record { state = stateAt (getD place 0 0); body = body; 
 
 abbrev pub placeOf : Receiver → List ℕ
 placeOf r = stateNumber (r .state) ∷ r .len ∷ eightOf (r .tallies)
+
+-- 01, "Numbers handed back", 12: a state with a length over its limit has no numbers to hand out
+unfoldable pub placedOf : Receiver → Placed
+placedOf r =
+    cond (ltb limit (r .len)) (record { place = replicate 10 0; answer = refusedBy 12 })
+    (record { place = placeOf r; answer = Nothing })

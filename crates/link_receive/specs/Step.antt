@@ -24,6 +24,7 @@ use Rattle.link_receive.specs.declared.Answer.the-variants as answer
 use Rattle.link_receive.specs.declared.Receiver.{Receiver}
 use Rattle.link_receive.specs.declared.Stepped.{Stepped}
 use Rattle.link_receive.specs.Tally.{kindOf, raise, zeros}
+use Rattle.link_receive.specs.Frames.{refusedBy}
 
 -- 01, "What changes shape": a 256-byte array with a length
 abbrev pub limit : ℕ
@@ -108,7 +109,7 @@ closedOf r (Dropped x) = quiet (countedOf r (kindOf x) Idle)
 
 -- the refusal 12: nothing changes
 abbrev pub refusedOf : Receiver → Stepped
-refusedOf r = record { next = r; answer = answer.Refused }
+refusedOf r = record { next = r; answer = refusedBy 12 }
 
 -- 01: a reset sets all eight to 0 and keeps state and body
 unfoldable pub resetOf : Receiver → Stepped

@@ -1,6 +1,7 @@
 // A receiver as ten numbers (the state's own, the length, and the eight tallies in the ledger's order) and the 256 bytes of its body.
 ghost use mathlib.Core.Path.{_≡_};
-ghost use Rattle.link_receive.specs.Numbered.{stateAt, stateNumber, receiverAt, placeOf};
+ghost use Rattle.link_receive.specs.Numbered.{stateAt, stateNumber, receiverAt, placedOf};
+use crate::Answer;
 use crate::Receiver;
 use crate::State;
 use crate::Tallies;
@@ -57,16 +58,29 @@ pub fn receiver_at(place: [u64; 10], body: [u8; 256]) -> Receiver
     }
 }
 
-// The ten numbers of a receiver.
-pub fn place_of(r: Receiver) -> [u64; 10]
-    ensures { λ p. ⌜ p ≡ placeOf r ⌝ }
+// Ten numbers of a receiver, or the refusal.
+pub struct Placed {
+    pub place: [u64; 10],
+    pub answer: Answer,
+}
+
+// The ten numbers of a receiver. Refused by 12, with ten zeros in their place, if its length is over the limit.
+pub fn place_of(r: Receiver) -> Placed
+    ensures { λ p. ⌜ p ≡ placedOf r ⌝ }
 {
+    let len = r.len;
+    if Receiver::MAX_FRAME_SIZE < len {
+        return Placed {
+            place: [0; 10],
+            answer: Answer::Refused,
+        };
+    }
     let state = r.state;
     let t = r.tallies;
     let n = state_number(state);
-    [
+    let place = [
         n,
-        r.len as u64,
+        len as u64,
         t.openings,
         t.frames,
         t.runts,
@@ -75,5 +89,9 @@ pub fn place_of(r: Receiver) -> [u64; 10]
         t.escaped,
         t.broken,
         t.noise,
-    ]
+    ];
+    Placed {
+        place: place,
+        answer: Answer::Nothing,
+    }
 }

@@ -5,6 +5,7 @@ use mathlib.Core.List.{List}
 use lib.ListN.{length}
 use lib.Dec.{eqb, ltb}
 use Rattle.laws.specs.Bytes.{be16At}
+use Rattle.layouts.specs.Layouts.{identifyResponseLength, enumerationStartRequestLength, enumerationStartRequestIn}
 use Rattle.utf8.specs.Scan.{isText}
 use Rattle.answers.specs.Counters
 use Rattle.answers.specs.Counters.{raise, raiseAt}
@@ -33,14 +34,14 @@ unfoldable pub enumerationStartIn : List ℕ → Bool → ℕ → List ℕ → C
 enumerationStartIn cs from g p =
     cond from (counted WrongDirection (raise Counters.invalid-enumeration-start-request cs))
     (cond (eqb g 0)
-    (cond (eqb (length p) 6) (startedIn (be16At p 4) cs)
+    (cond (eqb (length p) enumerationStartRequestLength) (startedIn (be16At (enumerationStartRequestIn p .«enumeration_address») 0) cs)
     (counted WrongLength (raise Counters.invalid-enumeration-start-request cs)))
     (counted WrongDirection (raise Counters.invalid-enumeration-start-request cs)))
 
 unfoldable pub identityIn : List ℕ → ℕ → ℕ → Bool → List ℕ → Counted
 identityIn cs good bad from p =
     cond from
-    (cond (eqb (length p) 10) (counted IdentityObserved (raiseAt good cs)) (counted WrongLength (raiseAt bad cs)))
+    (cond (eqb (length p) identifyResponseLength) (counted IdentityObserved (raiseAt good cs)) (counted WrongLength (raiseAt bad cs)))
     (counted WrongDirection (raiseAt bad cs))
 
 unfoldable pub versionIn : List ℕ → Bool → List ℕ → Counted

@@ -472,7 +472,7 @@ pub transport-receiver·Receiver·step : Determined 1 transport-receiver·Receiv
 transport-receiver·Receiver·step κs a x y u v p q = (p .0 ∙ sym (q .0), refl)
 
 pub transport-receiver·Receiver·reset-counters : Determined 0 transport-receiver·Receiver·reset-counters·kinds.ps transport-receiver·Receiver·reset-counters·kinds.r transport-receiver·Receiver·reset-counters·reads.Learnt
-transport-receiver·Receiver·reset-counters κs a x y u v p q = (p ∙ sym q, refl)
+transport-receiver·Receiver·reset-counters κs a x y u v p q = (p .0 ∙ sym (q .0), refl)
 
 pub transport-receiver·step-in : Determined 10 transport-receiver·step-in·kinds.ps transport-receiver·step-in·kinds.r transport-receiver·step-in·reads.Learnt
 transport-receiver·step-in κs a x y u v p q = (ap (λ (s : Stepped). s .answer) (p ∙ sym q), ap (λ (s : Stepped). (at-last (a .0) (s .receiver .nkeys), (at-last (a .1 .0) (s .receiver .numbers), (at-last (a .1 .1 .0) (s .receiver .skeys), (at-last (a .1 .1 .1 .0) (s .receiver .sequences), (at-last (a .1 .1 .1 .1 .0) (s .receiver .ckeys), (at-last (a .1 .1 .1 .1 .1 .0) (s .receiver .ctypes), (at-last (a .1 .1 .1 .1 .1 .1 .0) (s .receiver .clengths), (at-last (a .1 .1 .1 .1 .1 .1 .1 .0) (s .receiver .cpayloads), (at-last (a .1 .1 .1 .1 .1 .1 .1 .1 .0) (s .receiver .counters), (a .1 .1 .1 .1 .1 .1 .1 .1 .1 .0, (a .1 .1 .1 .1 .1 .1 .1 .1 .1 .1 .0, (a .1 .1 .1 .1 .1 .1 .1 .1 .1 .1 .1 .0, tt))))))))))))) (p ∙ sym q))

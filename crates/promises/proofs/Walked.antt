@@ -17,7 +17,7 @@ use Rattle.link_feed.specs.declared.Fed.{Fed}
 use Rattle.link_receive.specs.declared.Tallies.{Tallies}
 use Rattle.network.specs.declared.received_packets.ReceivedPackets.{ReceivedPackets}
 use Rattle.network.specs.Walker.{Next}
-use Rattle.lent.specs.Lent.{Pushed, FedWith}
+use Rattle.link_feed.specs.Tallies.{Pushed, FedWith}
 use Rattle.lent.proofs.push_u8 as push-u8
 use Rattle.lent.proofs.feed as feed
 use Rattle.network.proofs.received_packets.ReceivedPackets.new as new

@@ -14,6 +14,7 @@ use Rattle.laws.specs.Bytes.{le16}
 use Rattle.escaping.specs.Escapes.{meaning, escapedByte, escaped}
 use Rattle.escaping.proofs.Laws.{OnTheWire, itself, coded, escapedByte-on}
 use Rattle.link.specs.Wire as wire
+use Rattle.address.specs.Address.{idLimit, gatewayOf, numberOf}
 use Rattle.link.specs.Wire.{Frame, startOf, checkedOf, frameOf, bodyOf, encodedOf}
 use Rattle.link.proofs.Body.{length-bodyOf, frameOf-bodyOf}
 use Rattle.reading.specs.Kinds.{Kind, openings, frames, same}
@@ -41,7 +42,7 @@ verdict-bodyOf check f = verdict-sound check (bodyOf check f) (omega (arith, len
 
 -- an encoded frame but for its last byte, with which the machine hands it out
 unfoldable pub almostOf : (List ℕ → ℕ) → Frame → List ℕ
-almostOf check f = startOf (f .address) ++ (escaped (bodyOf check f) ++ (0x7e ∷ []))
+almostOf check f = startOf (numberOf (f .address)) ++ (escaped (bodyOf check f) ++ (0x7e ∷ []))
 
 pub encodedOf-almostOf : (check : List ℕ → ℕ) (f : Frame) → encodedOf check f ≡ almostOf check f ++ (0x08 ∷ [])
 unfolding encodedOf almostOf
@@ -82,7 +83,7 @@ module _ (limit : ℕ) (check : List ℕ → ℕ) where
     pub goes-encodedOf : goes (encodedOf check f) (out l) ≡ record { events = counted openings ∷ closes sound (bodyOf check f) ∷ []; to = out idle }
     unfolding run reach encodedOf meaning
     goes-encodedOf =
-        goes-startOf (ltb (f .address) 0x8000) l (escaped (bodyOf check f) ++ wire.end)
+        goes-startOf (ltb (numberOf (f .address)) 0x8000) l (escaped (bodyOf check f) ++ wire.end)
         ∙ ap (λ (x : Beat). record { events = counted openings ∷ x .events; to = x .to }) (goes-escaped (bodyOf check f) [] wire.end (omega (arith, length-bodyOf check f)))
         ∙ rw (verdict-bodyOf check f)
 
@@ -90,18 +91,18 @@ module _ (limit : ℕ) (check : List ℕ → ℕ) where
     pub goes-almostOf : goes (almostOf check f) (out l) ≡ record { events = counted openings ∷ []; to = inside-7e (bodyOf check f) }
     unfolding run reach almostOf meaning
     goes-almostOf =
-        goes-startOf (ltb (f .address) 0x8000) l (escaped (bodyOf check f) ++ (0x7e ∷ []))
+        goes-startOf (ltb (numberOf (f .address)) 0x8000) l (escaped (bodyOf check f) ++ (0x7e ∷ []))
         ∙ ap (λ (x : Beat). record { events = counted openings ∷ x .events; to = x .to }) (goes-escaped (bodyOf check f) [] (0x7e ∷ []) (omega (arith, length-bodyOf check f)))
 
     -- IN A READING: after bytes that leave off outside, Idle or in Noise
 
     module _ (h : List ℕ) (ps qs : List Piece) (r : Reading limit h ps) (outside : left ps ≡ out l) (s : Reading limit (h ++ encodedOf check f) qs) where
       -- exactly that frame is added to the sound ones
-      pub read-back : soundFrames check qs ≡ soundFrames check ps ++ (f ∷ [])
+      pub read-back : gatewayOf (f .address) ≤ idLimit → soundFrames check qs ≡ soundFrames check ps ++ (f ∷ [])
       unfolding bodies
-      read-back =
+      read-back good =
           rw (soundBodies-more limit check h (encodedOf check f) ps qs r s, outside, ap (λ (x : Beat). x .events) goes-encodedOf)
-          (map-append frameOf (soundBodies check ps) (bodyOf check f ∷ []) ∙ rw (frameOf-bodyOf check f))
+          (map-append frameOf (soundBodies check ps) (bodyOf check f ∷ []) ∙ rw (frameOf-bodyOf check f good))
 
       -- the line is Idle then
       pub read-back-left : left qs ≡ out idle

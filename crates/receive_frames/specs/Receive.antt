@@ -4,7 +4,7 @@ use mathlib.Core.Bool.{Bool, cond}
 use mathlib.Core.List.{List}
 use lib.ListN.{length, getD, set, drop}
 use lib.Dec.{eqb, ltb}
-use Rattle.laws.specs.Bytes.{be16At}
+use Rattle.layouts.specs.Layouts.{receiveRequestLength, requestedNumber}
 use Rattle.tables.specs.Keys.{firstOf, seatOf}
 use Rattle.transport.specs.declared.ReceiveResponse.{ReceiveResponse}
 use Rattle.transport.specs.declared.ReceiveRead.{ReceiveRead}
@@ -29,13 +29,13 @@ asked a ks ns cs = record { answer = a; nkeys = ks; numbers = ns; counters = cs 
 abbrev pub askedAt : ℕ → List ℕ → List ℕ → List ℕ → ℕ → List ℕ → Asked
 askedAt i ks ns cs g p =
     cond (ltb i 32)
-    (asked SlotCounterCaptured (set ks i (suc g)) (set ns i (be16At p 2)) (raise Counters.receive-requests cs))
+    (asked SlotCounterCaptured (set ks i (suc g)) (set ns i (requestedNumber p)) (raise Counters.receive-requests cs))
     (asked NumbersFull ks ns cs)
 
 unfoldable pub receiveRequestIn : List ℕ → List ℕ → List ℕ → Bool → ℕ → List ℕ → Asked
 receiveRequestIn ks ns cs from g p =
     cond from (asked WrongDirection ks ns (raise Counters.invalid-receive-request cs))
-    (cond (eqb (length p) 5) (askedAt (seatOf ks (suc g)) ks ns cs g p)
+    (cond (eqb (length p) receiveRequestLength) (askedAt (seatOf ks (suc g)) ks ns cs g p)
     (asked WrongLength ks ns (raise Counters.invalid-receive-request cs)))
 
 -- a receive response

@@ -13,7 +13,8 @@ use Rattle.tables.specs.Places.{Place, free, held, holder, seat, valueIn, place
 use Rattle.sound_record.specs.Record.{written}
 use Rattle.answers.specs.Types
 use Rattle.transport_receiver.specs.State.{State, Frame, Command, stateOf, fresh}
-use Rattle.transport_receiver.specs.Step.{Outcome, silent, event, Row, judged, accepted, stepOf, overLimit, keyOf, requestOf}
+use Rattle.transport_receiver.specs.Step.{Outcome, silent, event, Result, accepted, stepOf, resetOf, overLimit, keyOf, requestOf, Input, frame, reset}
+use Rattle.transport_receiver.proofs.Cases.{accepted-cases, judged-cases}
 use Rattle.transport_receiver.specs.Step as step
 use Rattle.laws.proofs.Cases.{by}
 use Rattle.records.specs.Records.{recordsIn, bytesOf, anyUnsound}
@@ -60,20 +61,11 @@ fresh-small = free-small _ 0 64
 module _ (s : State) (a : AllSmall (s .commands)) (f : Frame) where
   accepted-small : length (f .payload) ≤ 250 → AllSmall (accepted s f .state .commands)
   accepted-small l =
-      by (eqb (f .kind) Types.receive-request) (λ t. rw t a)
-      (λ t1. by (eqb (f .kind) Types.receive-response) (λ t. rw (t1, t) a)
-      (λ t2. by (eqb (f .kind) Types.command-request) (λ t. rw (t1, t2, t) (small-set (s .commands) (seat (s .commands) (keyOf f)) (held (keyOf f) (requestOf (f .payload))) a (simp length-drop (omega arith))))
-      (λ t3. by (eqb (f .kind) Types.command-response) (λ t. rw (t1, t2, t3, t) (small-set (s .commands) (holder (s .commands) (keyOf f)) free a tt))
-      (λ t4. by (eqb (f .kind) Types.enumeration-start-request) (λ t. rw (t1, t2, t3, t4, t) a)
-      (λ t5. by (eqb (f .kind) Types.enumeration-response) (λ t. rw (t1, t2, t3, t4, t5, t) a)
-      (λ t6. by (eqb (f .kind) Types.identify-response) (λ t. rw (t1, t2, t3, t4, t5, t6, t) a)
-      (λ t7. by (eqb (f .kind) Types.version-response) (λ t. rw (t1, t2, t3, t4, t5, t6, t7, t) a)
-      (λ t8. by (eqb (f .kind) Types.enumeration-end-response) (λ t. rw (t1, t2, t3, t4, t5, t6, t7, t8, t) a)
-      (λ t9. rw (t1, t2, t3, t4, t5, t6, t7, t8, t9) a)))))))))
-
-  judged-small : length (f .payload) ≤ 250 → (rows : List Row) → AllSmall (judged rows s f .state .commands)
-  judged-small l [] = accepted-small l
-  judged-small l (r ∷ rs) = by (r .holds) (λ t. rw t a) (λ t. rw t (judged-small l rs))
+      accepted-cases (λ (r : Result). AllSmall (r .state .commands)) s f
+      (λ e. a) (λ e. a)
+      (λ e. small-set (s .commands) (seat (s .commands) (keyOf f)) (held (keyOf f) (requestOf (f .payload))) a (simp length-drop (omega arith)))
+      (λ e. small-set (s .commands) (holder (s .commands) (keyOf f)) free a tt)
+      (λ o i e. a)
 
   step-small : AllSmall (stepOf s f .state .commands)
   unfolding stepOf
@@ -81,7 +73,7 @@ module _ (s : State) (a : AllSmall (s .commands)) (f : Frame) where
       by (overLimit (s .commands)) (λ t. rw t a)
       (λ t1. by (ltb 0x7fff (f .gateway)) (λ t. rw (t1, t) a)
       (λ t2. by (ltb 250 (length (f .payload))) (λ t. rw (t1, t2, t) a)
-      (λ t3. judged-small (ltb-false 250 (length (f .payload)) t3) (rowsOf s f))))
+      (λ t3. judged-cases (λ (r : Result). AllSmall (r .state .commands)) s f (λ r. a) (accepted-small (ltb-false 250 (length (f .payload)) t3)) (rowsOf s f))))
 
   one-sound : Bytes (f .payload) → (o : Outcome) → stepOf s f .outcome ≡ o → anyUnsound (recordsIn (eventOf o)) ≡ false
   one-sound b (step.refused n) e = refl
@@ -89,19 +81,30 @@ module _ (s : State) (a : AllSmall (s .commands)) (f : Frame) where
   one-sound b silent e = refl
   one-sound b (event x) e = every-sound s (all-small s a) f b x e .1
 
--- frames of bytes
-abbrev pub AllBytes : List Frame → Type 0
-AllBytes [] = Unit {0}
-AllBytes (f ∷ fs) = Bytes (f .payload) × AllBytes fs
+-- a reset gives no record, and touches no table
+reset-small : (s : State) → AllSmall (s .commands) → AllSmall (resetOf s .state .commands)
+unfolding resetOf
+reset-small s a = by (overLimit (s .commands)) (λ e. rw e a) (λ e. rw e a)
 
-log-sound : (s : State) → AllSmall (s .commands) → (fs : List Frame) → AllBytes fs → anyUnsound (logOf s fs) ≡ false
+reset-silent : (s : State) → recordsIn (eventOf (resetOf s .outcome)) ≡ []
+unfolding resetOf
+reset-silent s = by (overLimit (s .commands)) (λ e. rw e) (λ e. rw e)
+
+-- frames of bytes
+abbrev pub AllBytes : List Input → Type 0
+AllBytes [] = Unit {0}
+AllBytes (frame f ∷ is) = Bytes (f .payload) × AllBytes is
+AllBytes (reset ∷ is) = AllBytes is
+
+log-sound : (s : State) → AllSmall (s .commands) → (is : List Input) → AllBytes is → anyUnsound (logOf s is) ≡ false
 log-sound s a [] b = refl
-log-sound s a (f ∷ fs) b =
+log-sound s a (reset ∷ is) b = rw (reset-silent s) (log-sound (resetOf s .state) (reset-small s a) is b)
+log-sound s a (frame f ∷ fs) b =
     none-unsound-append (recordsIn (eventOf (stepOf s f .outcome))) (logOf (stepOf s f .state) fs) (one-sound s a f (b .0) (stepOf s f .outcome) refl) (log-sound (stepOf s f .state) (step-small s a f) fs (b .1))
 
--- whatever frames come, from fresh: each record of the log is sound, and a reader finds just these records, up to the log's end
-pub run-sound : (fs : List Frame) → AllBytes fs → anyUnsound (logOf (stateOf fresh) fs) ≡ false
+-- whatever inputs come, from fresh: each record of the log is sound, and a reader finds just these records, up to the log's end
+pub run-sound : (fs : List Input) → AllBytes fs → anyUnsound (logOf (stateOf fresh) fs) ≡ false
 run-sound fs b = log-sound (stateOf fresh) fresh-small fs b
 
-pub run-holds : (fs : List Frame) → AllBytes fs → Holds (bytesOf written (logOf (stateOf fresh) fs)) 0 (logOf (stateOf fresh) fs)
+pub run-holds : (fs : List Input) → AllBytes fs → Holds (bytesOf written (logOf (stateOf fresh) fs)) 0 (logOf (stateOf fresh) fs)
 run-holds fs b = log-holds (logOf (stateOf fresh) fs) (run-sound fs b)

@@ -6,7 +6,8 @@ use mathlib.Core.Option.{Option, none, some}
 use lib.ListN.{take, drop}
 use lib.Dec.{ltb}
 use Rattle.transport_receiver.specs.Lent.{requestPayload}
-use Rattle.transport_receiver.specs.Step.{Event, enumeration-started, identity, version, enumeration-ended, slot-captured, slot-counter, command, Outcome, refused, short, silent, event, stepOf}
+use Rattle.layouts.specs.Layouts.{longAddress, responseData}
+use Rattle.transport_receiver.specs.Step.{Event, enumeration-started, identity, version, enumeration-ended, slot-captured, slot-counter, command, Outcome, refused, short, silent, event, Input, takenOf}
 use Rattle.transport_receiver.specs.State.{State, Frame}
 use Rattle.answers.specs.declared.Answer.{Answer}
 use Rattle.answers.specs.declared.Answer.the-variants.{OverLimit, InvalidGatewayID, WrongDirection, WrongLength, UnknownStatusType, TooShort, UnknownGateway, NumbersFull, SequencesFull, CommandsFull, NamesFrom, InvalidVersion, NoRequest, UnhandledType, PayloadTooLong, Counted, CommandKept, EnumerationStarted, IdentityObserved, VersionObserved, EnumerationEnded, SlotCounterCaptured, SlotCounterObserved, CommandExecuted}
@@ -48,12 +49,12 @@ saidOf (CommandExecuted place request length response) = said.Command place requ
 abbrev pub eventSaid : List ℕ → ℕ → List ℕ → Said → Option Event
 eventSaid pool g p said.Nothing = none
 eventSaid pool g p (said.Started gateway) = some (enumeration-started (gateway .0))
-eventSaid pool g p said.Identity = some (identity g (take 8 p))
+eventSaid pool g p said.Identity = some (identity g (longAddress p))
 eventSaid pool g p said.Version = some (version g p)
 eventSaid pool g p said.Ended = some (enumeration-ended g)
 eventSaid pool g p said.Captured = some (slot-captured g)
 eventSaid pool g p (said.Slot counter repeat area) = some (slot-counter g counter repeat (drop area p))
-eventSaid pool g p (said.Command place request length response) = some (command g request (requestPayload pool place length) response (drop 5 p))
+eventSaid pool g p (said.Command place request length response) = some (command g request (requestPayload pool place length) response (responseData p))
 
 abbrev pub eventIn : List ℕ → ℕ → List ℕ → Answer → Option Event
 eventIn pool g p a = eventSaid pool g p (saidOf a)
@@ -65,10 +66,10 @@ eventOf (short n) = none
 eventOf silent = none
 eventOf (event e) = some e
 
--- the log of frames, one after another, from a state on
-abbrev pub logOf : State → List Frame → List Entry
+-- the log of inputs, one after another, from a state on
+abbrev pub logOf : State → List Input → List Entry
 logOf s [] = []
-logOf s (f ∷ fs) = recordsIn (eventOf (stepOf s f .outcome)) ++ logOf (stepOf s f .state) fs
+logOf s (i ∷ is) = recordsIn (eventOf (takenOf s i .outcome)) ++ logOf (takenOf s i .state) is
 
 -- what is left of a room after so many bytes
 unfoldable pub roomAfter : ℕ → ℕ → Room

@@ -1,3 +1,4 @@
 pub mod Pool
 pub mod Refines
 pub mod Handed
+pub mod Cases

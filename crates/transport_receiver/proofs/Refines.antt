@@ -25,9 +25,9 @@ use Rattle.receive_frames.specs.Receive.{receiveRequestIn, receiveResponseIn, g
 use Rattle.command_frames.specs.Command.{isLastIn, noteIn, keepIn, commandRequestIn, commandResponseIn}
 use Rattle.plain_frames.specs.Plain.{identityIn, enumerationEndIn, versionIn, enumerationStartIn, countIn, untabledIn}
 use Rattle.transport_receiver.specs.State.{State, Frame, stateOf, commandIn}
-use Rattle.transport_receiver.specs.Step.{Result, stepOf, handledOf, isLast, overLimit}
-use Rattle.transport_receiver.specs.Handed.{told}
-use Rattle.transport_receiver.specs.Lent.{notedOf, seatedOf, afterAsked, afterCounted, afterRequested, afterAnswered, afterReceived, handledIn, stepIn}
+use Rattle.transport_receiver.specs.Step.{Result, stepOf, handledOf, isLast, overLimit, resetOf}
+use Rattle.transport_receiver.specs.Handed.{told, toldReset}
+use Rattle.transport_receiver.specs.Lent.{notedOf, seatedOf, afterAsked, afterCounted, afterRequested, afterAnswered, afterReceived, handledIn, stepIn, clearedOf}
 use Rattle.transport_receiver.specs.declared.Receiver.{Receiver}
 use Rattle.transport_receiver.proofs.Pool.{overLimit-places, stored-commands}
 use Rattle.laws.proofs.Cases.{by}
@@ -289,3 +289,13 @@ refines r z f =
     (λ a. by (ltb 0x7fff (f .gateway)) (refused-13 r f a)
     (λ b. by (ltb 250 (length (f .payload))) (refused-32 r f a b)
     (λ c. passed r f a b c (refines-handled r z a (f .from) (f .gateway) (f .payload) (ltb-false 250 (length (f .payload)) c) (f .kind)))))
+
+-- what the reset does to the arrays is what 01's reset does to the tables that they mean
+module _ (r : Receiver) where
+  pub reset-refused : overOf (r .ckeys) (r .clengths) 245 ≡ true → toldReset (record { receiver = r; over = true }) ≡ resetOf (stateOf r)
+  unfolding resetOf stateOf
+  reset-refused e = rw (overLimit-places (r .ckeys) (r .ctypes) (r .clengths) (r .cpayloads), e)
+
+  pub reset-done : overOf (r .ckeys) (r .clengths) 245 ≡ false → toldReset (record { receiver = clearedOf r; over = false }) ≡ resetOf (stateOf r)
+  unfolding resetOf stateOf
+  reset-done e = rw (overLimit-places (r .ckeys) (r .ctypes) (r .clengths) (r .cpayloads), e)

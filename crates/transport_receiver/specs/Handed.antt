@@ -1,10 +1,13 @@
 -- 01's number and values for each answer of a step. Assumes nothing.
 use Prim.Native.Nat.{ℕ}
+use mathlib.Core.Bool.{cond}
 use mathlib.Core.List.{List}
-use lib.ListN.{take, drop}
+use lib.ListN.{drop}
+use Rattle.layouts.specs.Layouts.{longAddress, responseData}
 use Rattle.transport_receiver.specs.State.{Frame, stateOf, payloadAt}
 use Rattle.transport_receiver.specs.Step.{Event, enumeration-started, identity, version, enumeration-ended, slot-captured, slot-counter, command, Outcome, refused, short, silent, event, Result}
 use Rattle.transport_receiver.specs.declared.Stepped.{Stepped}
+use Rattle.transport_receiver.specs.declared.WasReset.{WasReset}
 use Rattle.answers.specs.declared.Answer.{Answer}
 use Rattle.answers.specs.declared.Answer.the-variants.{OverLimit, InvalidGatewayID, WrongDirection, WrongLength, UnknownStatusType, TooShort, UnknownGateway, NumbersFull, SequencesFull, CommandsFull, NamesFrom, InvalidVersion, NoRequest, UnhandledType, PayloadTooLong, Counted, CommandKept, EnumerationStarted, IdentityObserved, VersionObserved, EnumerationEnded, SlotCounterCaptured, SlotCounterObserved, CommandExecuted}
 
@@ -28,13 +31,17 @@ handed pool f PayloadTooLong = refused 32
 handed pool f Counted = silent
 handed pool f CommandKept = silent
 handed pool f (EnumerationStarted gateway) = event (enumeration-started (gateway .0))
-handed pool f IdentityObserved = event (identity (f .gateway) (take 8 (f .payload)))
+handed pool f IdentityObserved = event (identity (f .gateway) (longAddress (f .payload)))
 handed pool f VersionObserved = event (version (f .gateway) (f .payload))
 handed pool f EnumerationEnded = event (enumeration-ended (f .gateway))
 handed pool f SlotCounterCaptured = event (slot-captured (f .gateway))
 handed pool f (SlotCounterObserved number slot repeat area) = event (slot-counter (f .gateway) (slot .0) repeat (drop area (f .payload)))
-handed pool f (CommandExecuted place request length response) = event (command (f .gateway) request (payloadAt pool place length) response (drop 5 (f .payload)))
+handed pool f (CommandExecuted place request length response) = event (command (f .gateway) request (payloadAt pool place length) response (responseData (f .payload)))
 
 -- what a step says of a frame: what it hands back, and the tables and counters after it
 abbrev pub told : Frame → Stepped → Result
 told f t = record { outcome = handed (t .receiver .cpayloads) f (t .answer); state = stateOf (t .receiver) }
+
+-- and of a reset
+abbrev pub toldReset : WasReset → Result
+toldReset w = record { outcome = cond (w .over) (refused 12) silent; state = stateOf (w .receiver) }

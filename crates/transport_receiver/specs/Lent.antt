@@ -5,6 +5,7 @@ use mathlib.Core.List.{List, []}
 use lib.ListN.{length, replicate}
 use lib.Dec.{eqb, ltb}
 use Rattle.tables.specs.Keys.{overOf}
+use Rattle.answers.specs.Counters.{counterCount}
 use Rattle.answers.specs.Types
 use Rattle.receive_frames.specs.Receive.{Asked, receiveRequestIn, Received, receiveResponseIn}
 use Rattle.command_frames.specs.Command.{Noted, noted, Seated, Requested, commandRequestIn, Answered, commandResponseIn}
@@ -69,7 +70,10 @@ requestPayload pool place size =
     cond (ltb place 64) (cond (ltb 245 size) [] (payloadAt pool place size)) []
 
 -- 01, "Transport": their reset clears nothing else; 12 refuses it too
+abbrev pub clearedOf : Receiver → Receiver
+clearedOf r = record { nkeys = r .nkeys; numbers = r .numbers; skeys = r .skeys; sequences = r .sequences; ckeys = r .ckeys; ctypes = r .ctypes; clengths = r .clengths; cpayloads = r .cpayloads; counters = replicate counterCount 0 }
+
 unfoldable pub resetIn : Receiver → WasReset
 resetIn r =
     cond (overOf (r .ckeys) (r .clengths) 245) (record { receiver = r; over = true })
-    (record { receiver = record { nkeys = r .nkeys; numbers = r .numbers; skeys = r .skeys; sequences = r .sequences; ckeys = r .ckeys; ctypes = r .ctypes; clengths = r .clengths; cpayloads = r .cpayloads; counters = replicate 33 0 }; over = false })
+    (record { receiver = clearedOf r; over = false })

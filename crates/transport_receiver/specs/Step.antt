@@ -3,7 +3,7 @@ use Prim.Native.Nat.{ℕ}
 use mathlib.Core.Bool.{Bool, true, false, cond, not, _&&_, _||_}
 use mathlib.Core.List.{List, [], _∷_}
 use mathlib.Core.Option.{Option, none, some}
-use lib.ListN.{length, getD, take, drop}
+use lib.ListN.{length, getD, take, drop, replicate}
 use lib.Dec.{eqb, ltb}
 use Rattle.laws.specs.Bytes.{be16At}
 use Rattle.address.specs.Address.{idLimit, gatewayOf, isFrom, addressOf}
@@ -11,9 +11,10 @@ use Rattle.link.specs.Wire.{payloadLimit}
 use Rattle.utf8.specs.Scan.{isText}
 use Rattle.transport.specs.Status.{acceptedOf, neededOf, slotCounterAt}
 use Rattle.transport.specs.Number.{numberOf}
+use Rattle.layouts.specs.Layouts.{commandRequestLength, commandResponseLength, receiveRequestLength, identifyResponseLength, enumerationStartRequestLength, requestType, requestSequence, requestData, responseType, responseSequence, responseData, requestedNumber, longAddress, enumerationAddress}
 use Rattle.tables.specs.Places.{Place, free, held, isHeld, hasRoom, stored, removed, valueAt}
 use Rattle.answers.specs.Counters
-use Rattle.answers.specs.Counters.{raise, countPackets}
+use Rattle.answers.specs.Counters.{raise, countPackets, counterCount}
 use Rattle.answers.specs.Types
 use Rattle.answers.specs.Types.{isOneOf, isNamed, invalidOf, counterOf}
 use Rattle.answers.specs.Stored.{commandKey, repeats}
@@ -49,12 +50,12 @@ pub record Result : Type 0 where
   pub outcome : Outcome
   pub state : State
 
--- the sequence number of a command's request or response
-abbrev pub sequenceOf : List ℕ → ℕ
-sequenceOf p = getD p 4 0
-
+-- the key of a command's request, and of a response
 abbrev pub keyOf : Frame → ℕ
-keyOf f = commandKey (f .gateway) (sequenceOf (f .payload))
+keyOf f = commandKey (f .gateway) (requestSequence (f .payload))
+
+abbrev pub answerKeyOf : Frame → ℕ
+answerKeyOf f = commandKey (f .gateway) (responseSequence (f .payload))
 
 -- 01, "Numbers handed back", 12: state with a length over its limit. Only a held place's length can be
 abbrev pub isOver : Place Command → Bool
@@ -76,11 +77,12 @@ wrongDirection f =
 -- 21: wrong or short fixed length
 abbrev pub wrongLength : Frame → Bool
 wrongLength f =
-    cond (eqb (f .kind) Types.receive-request) (not (eqb (length (f .payload)) 5))
-    (cond (isOneOf (Types.identify-response ∷ Types.enumeration-response ∷ []) (f .kind)) (not (eqb (length (f .payload)) 10))
-    (cond (eqb (f .kind) Types.enumeration-start-request) (not (eqb (length (f .payload)) 6))
-    (cond (isOneOf (Types.command-request ∷ Types.command-response ∷ []) (f .kind)) (ltb (length (f .payload)) 5)
-    false)))
+    cond (eqb (f .kind) Types.receive-request) (not (eqb (length (f .payload)) receiveRequestLength))
+    (cond (isOneOf (Types.identify-response ∷ Types.enumeration-response ∷ []) (f .kind)) (not (eqb (length (f .payload)) identifyResponseLength))
+    (cond (eqb (f .kind) Types.enumeration-start-request) (not (eqb (length (f .payload)) enumerationStartRequestLength))
+    (cond (eqb (f .kind) Types.command-request) (ltb (length (f .payload)) commandRequestLength)
+    (cond (eqb (f .kind) Types.command-response) (ltb (length (f .payload)) commandResponseLength)
+    false))))
 
 -- a receive response's status word
 abbrev pub statusOf : Frame → ℕ
@@ -114,12 +116,12 @@ rowsOfType s f =
     ∷ row (eqb (f .kind) Types.receive-response && ltb (length (f .payload)) 2) (short 5) (some (invalidOf (f .kind)))
     ∷ row (eqb (f .kind) Types.receive-response && not (acceptedOf (statusOf f))) (refused 22) (some (invalidOf (f .kind)))
     ∷ row (eqb (f .kind) Types.receive-response && ltb (length (f .payload)) (neededOf (statusOf f))) (short (neededOf (statusOf f))) (some (invalidOf (f .kind)))
-    ∷ row (eqb (f .kind) Types.enumeration-start-request && isFrom (addressOf (be16At (f .payload) 4))) (refused 28) (some (invalidOf (f .kind)))
+    ∷ row (eqb (f .kind) Types.enumeration-start-request && isFrom (enumerationAddress (f .payload))) (refused 28) (some (invalidOf (f .kind)))
     ∷ row (eqb (f .kind) Types.version-response && not (isText (f .payload))) (refused 29) (some (invalidOf (f .kind)))
     ∷ row (eqb (f .kind) Types.command-request && not (hasRoom (s .sequences) (f .gateway))) (refused 26) none
     ∷ row (eqb (f .kind) Types.command-request && not (hasRoom (s .commands) (keyOf f))) (refused 27) none
     ∷ row (eqb (f .kind) Types.receive-request && not (hasRoom (s .numbers) (f .gateway))) (refused 25) none
-    ∷ row (eqb (f .kind) Types.command-response && not (isHeld (s .commands) (keyOf f))) (refused 30) (some Counters.retransmitted-command-responses)
+    ∷ row (eqb (f .kind) Types.command-response && not (isHeld (s .commands) (answerKeyOf f))) (refused 30) (some Counters.retransmitted-command-responses)
     ∷ []
 
 -- a state with other counters
@@ -156,7 +158,7 @@ abbrev pub captured : State → Frame → Result
 captured s f =
     record {
       outcome = event (slot-captured (f .gateway));
-      state = record { numbers = stored (s .numbers) (f .gateway) (be16At (f .payload) 2); sequences = s .sequences; commands = s .commands; counters = raise Counters.receive-requests (s .counters) };
+      state = record { numbers = stored (s .numbers) (f .gateway) (requestedNumber (f .payload)); sequences = s .sequences; commands = s .commands; counters = raise Counters.receive-requests (s .counters) };
     }
 
 -- it counts as retransmitted if its sequence is the gateway's last
@@ -166,7 +168,7 @@ isLast (some m) n = eqb m n
 
 -- a request's packet type and payload
 abbrev pub requestOf : List ℕ → Command
-requestOf p = record { kind = getD p 3 0; size = length (drop 5 p); payload = drop 5 p }
+requestOf p = record { kind = requestType p; size = length (requestData p); payload = requestData p }
 
 -- a command request is kept under gateway and sequence, replacing an older one there
 abbrev pub kept : State → Frame → Result
@@ -175,22 +177,22 @@ kept s f =
       outcome = silent;
       state = record {
         numbers = s .numbers;
-        sequences = stored (s .sequences) (f .gateway) (sequenceOf (f .payload));
+        sequences = stored (s .sequences) (f .gateway) (requestSequence (f .payload));
         commands = stored (s .commands) (keyOf f) (requestOf (f .payload));
-        counters = raise (cond (isLast (valueAt (s .sequences) (f .gateway)) (sequenceOf (f .payload))) Counters.retransmitted-command-requests Counters.command-requests) (s .counters);
+        counters = raise (cond (isLast (valueAt (s .sequences) (f .gateway)) (requestSequence (f .payload))) Counters.retransmitted-command-requests Counters.command-requests) (s .counters);
       };
     }
 
 abbrev pub executedOf : Option Command → Frame → Outcome
 executedOf none f = silent
-executedOf (some c) f = event (command (f .gateway) (c .kind) (c .payload) (getD (f .payload) 3 0) (drop 5 (f .payload)))
+executedOf (some c) f = event (command (f .gateway) (c .kind) (c .payload) (responseType (f .payload)) (responseData (f .payload)))
 
 -- a response takes its request out
 abbrev pub executed : State → Frame → Result
 executed s f =
     record {
-      outcome = executedOf (valueAt (s .commands) (keyOf f)) f;
-      state = record { numbers = s .numbers; sequences = s .sequences; commands = removed (s .commands) (keyOf f); counters = raise Counters.command-responses (s .counters) };
+      outcome = executedOf (valueAt (s .commands) (answerKeyOf f)) f;
+      state = record { numbers = s .numbers; sequences = s .sequences; commands = removed (s .commands) (answerKeyOf f); counters = raise Counters.command-responses (s .counters) };
     }
 
 -- an accepted frame that changes a counter alone
@@ -204,9 +206,9 @@ accepted s f =
     (cond (eqb (f .kind) Types.receive-response) (received s f (numberIn (valueAt (s .numbers) (f .gateway))) (drop (neededOf (statusOf f)) (f .payload)))
     (cond (eqb (f .kind) Types.command-request) (kept s f)
     (cond (eqb (f .kind) Types.command-response) (executed s f)
-    (cond (eqb (f .kind) Types.enumeration-start-request) (counted s (event (enumeration-started (gatewayOf (addressOf (be16At (f .payload) 4))))) Counters.enumeration-start-requests)
-    (cond (eqb (f .kind) Types.enumeration-response) (counted s (event (identity (f .gateway) (take 8 (f .payload)))) Counters.enumeration-responses)
-    (cond (eqb (f .kind) Types.identify-response) (counted s (event (identity (f .gateway) (take 8 (f .payload)))) Counters.identify-responses)
+    (cond (eqb (f .kind) Types.enumeration-start-request) (counted s (event (enumeration-started (gatewayOf (enumerationAddress (f .payload))))) Counters.enumeration-start-requests)
+    (cond (eqb (f .kind) Types.enumeration-response) (counted s (event (identity (f .gateway) (longAddress (f .payload)))) Counters.enumeration-responses)
+    (cond (eqb (f .kind) Types.identify-response) (counted s (event (identity (f .gateway) (longAddress (f .payload)))) Counters.identify-responses)
     (cond (eqb (f .kind) Types.version-response) (counted s (event (version (f .gateway) (f .payload))) Counters.version-responses)
     (cond (eqb (f .kind) Types.enumeration-end-response) (counted s (event (enumeration-ended (f .gateway))) Counters.enumeration-end-responses)
     (counted s silent (counterOf (f .kind)))))))))))
@@ -223,3 +225,18 @@ handledOf s f = judged (rowsOfType s f) s f
 -- the whole step: what a frame hands back, and the tables and counters after it
 unfoldable pub stepOf : State → Frame → Result
 stepOf s f = judged (rowsOfAny s f (rowsOfType s f)) s f
+
+-- 01, "Transport": their reset clears nothing else; 12 refuses it as it does a frame
+unfoldable pub resetOf : State → Result
+resetOf s =
+    cond (overLimit (s .commands)) (record { outcome = refused 12; state = s })
+    (record { outcome = silent; state = counting s (replicate counterCount 0) })
+
+-- what a receiver is given, one after another: a frame, or the reset of its counters
+pub data Input : Type 0 where
+  frame : Frame → Input
+  reset : Input
+
+abbrev pub takenOf : State → Input → Result
+takenOf s (frame f) = stepOf s f
+takenOf s reset = resetOf s

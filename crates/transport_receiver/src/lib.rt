@@ -5,8 +5,8 @@
 ghost use mathlib.Core.Path.{_≡_};
 ghost use Rattle.address.specs.Address.{isFrom, gatewayOf};
 ghost use Rattle.transport_receiver.specs.State.{given, frameOf, stateOf, fresh};
-ghost use Rattle.transport_receiver.specs.Step.{stepOf};
-ghost use Rattle.transport_receiver.specs.Handed.{told};
+ghost use Rattle.transport_receiver.specs.Step.{stepOf, resetOf};
+ghost use Rattle.transport_receiver.specs.Handed.{told, toldReset};
 ghost use Rattle.transport_receiver.specs.Lent.{arrays, stepped, handledIn, stepIn, requestPayload, resetIn};
 use address::Address;
 pub use answers::Answer;
@@ -243,7 +243,8 @@ impl Receiver {
 
     // The counters set to 0, and nothing else. Refused by 12, with nothing changed.
     pub fn reset_counters(mut self) -> WasReset
-        ensures { λ r. ⌜ r ≡ resetIn self ⌝ }
+        ensures exactly { λ r. ⌜ r ≡ resetIn self ⌝ }
+        ensures means { λ r. ⌜ toldReset r ≡ resetOf (stateOf self) ⌝ }
     {
         let ckeys = self.ckeys;
         let clengths = self.clengths;

@@ -13,7 +13,8 @@ use Rattle.tables.specs.Places.{isHeld, valueAt, removed, stored, Distinct}
 use Rattle.tables.proofs.Maps.{valueAt-stored-other, valueAt-removed-unheld, unheld-valueAt, valueAt-unheld, isHeld-removed}
 use Rattle.answers.specs.Types
 use Rattle.transport_receiver.specs.State.{State, Frame, Command}
-use Rattle.transport_receiver.specs.Step.{Event, isRefusal, Outcome, refused, short, silent, event, Result, Row, rowsOfAny, rowsOfType, judged, accepted, executedOf, stepOf, overLimit, keyOf, requestOf}
+use Rattle.transport_receiver.specs.Step.{Event, isRefusal, Outcome, refused, short, silent, event, Result, Row, rowsOfAny, rowsOfType, judged, accepted, executedOf, stepOf, resetOf, overLimit, keyOf, requestOf, frame, reset}
+use Rattle.transport_receiver.proofs.Cases.{accepted-cases, judged-cases}
 use Rattle.transport_run.specs.Reached.{Since, here, on, SameTables}
 use Rattle.transport_run.proofs.Reached.{clash}
 
@@ -25,16 +26,9 @@ module _ (s : State) (f : Frame) where
   -- an accepted frame is not refused
   accepted-no-refusal : isRefusal (accepted s f .outcome) ≡ false
   accepted-no-refusal =
-      by (eqb (f .kind) Types.receive-request) (λ e. rw e)
-      (λ e1. by (eqb (f .kind) Types.receive-response) (λ e. rw (e1, e))
-      (λ e2. by (eqb (f .kind) Types.command-request) (λ e. rw (e1, e2, e))
-      (λ e3. by (eqb (f .kind) Types.command-response) (λ e. rw (e1, e2, e3, e) (executed-silent (valueAt (s .commands) (keyOf f))))
-      (λ e4. by (eqb (f .kind) Types.enumeration-start-request) (λ e. rw (e1, e2, e3, e4, e))
-      (λ e5. by (eqb (f .kind) Types.enumeration-response) (λ e. rw (e1, e2, e3, e4, e5, e))
-      (λ e6. by (eqb (f .kind) Types.identify-response) (λ e. rw (e1, e2, e3, e4, e5, e6, e))
-      (λ e7. by (eqb (f .kind) Types.version-response) (λ e. rw (e1, e2, e3, e4, e5, e6, e7, e))
-      (λ e8. by (eqb (f .kind) Types.enumeration-end-response) (λ e. rw (e1, e2, e3, e4, e5, e6, e7, e8, e))
-      (λ e9. rw (e1, e2, e3, e4, e5, e6, e7, e8, e9))))))))))
+      accepted-cases (λ (r : Result). isRefusal (r .outcome) ≡ false) s f
+      (λ e. refl) (λ e. refl) (λ e. refl) (λ e. executed-silent (valueAt (s .commands) (keyOf f)))
+      (λ o i e. e)
 
   quiet-judged : (rows : List Row) → isRefusal (judged rows s f .outcome) ≡ true → SameTables s (judged rows s f .state)
   quiet-judged [] n = never (sym accepted-no-refusal ∙ n)
@@ -47,26 +41,22 @@ module _ (s : State) (f : Frame) where
 
   -- a key under which nothing waits: only a command request under it changes that
   module _ (k : ℕ) (gone : valueAt (s .commands) k ≡ none) (other : f .kind ≡ Types.command-request → keyOf f ≡ k → ⊥) where
-    unheld-accepted : valueAt (accepted s f .state .commands) k ≡ none
-    unheld-accepted =
-        by (eqb (f .kind) Types.receive-request) (λ e. rw e gone)
-        (λ e1. by (eqb (f .kind) Types.receive-response) (λ e. rw (e1, e) gone)
-        (λ e2. by (eqb (f .kind) Types.command-request) (λ e. rw (e1, e2, e) (valueAt-stored-other (s .commands) (keyOf f) (requestOf (f .payload)) k (λ p. other (eqb-true (f .kind) Types.command-request e) (sym p)) ∙ gone))
-        (λ e3. by (eqb (f .kind) Types.command-response) (λ e. rw (e1, e2, e3, e) (valueAt-removed-unheld (s .commands) (keyOf f) k (unheld-valueAt (s .commands) k gone)))
-        (λ e4. by (eqb (f .kind) Types.enumeration-start-request) (λ e. rw (e1, e2, e3, e4, e) gone)
-        (λ e5. by (eqb (f .kind) Types.enumeration-response) (λ e. rw (e1, e2, e3, e4, e5, e) gone)
-        (λ e6. by (eqb (f .kind) Types.identify-response) (λ e. rw (e1, e2, e3, e4, e5, e6, e) gone)
-        (λ e7. by (eqb (f .kind) Types.version-response) (λ e. rw (e1, e2, e3, e4, e5, e6, e7, e) gone)
-        (λ e8. by (eqb (f .kind) Types.enumeration-end-response) (λ e. rw (e1, e2, e3, e4, e5, e6, e7, e8, e) gone)
-        (λ e9. rw (e1, e2, e3, e4, e5, e6, e7, e8, e9) gone)))))))))
+    Unheld : Result → Type 0
+    Unheld r = valueAt (r .state .commands) k ≡ none
 
-    unheld-judged : (rows : List Row) → valueAt (judged rows s f .state .commands) k ≡ none
-    unheld-judged [] = unheld-accepted
-    unheld-judged (r ∷ rs) = by (r .holds) (λ e. rw e gone) (λ e. rw e (unheld-judged rs))
+    unheld-accepted : Unheld (accepted s f)
+    unfolding Unheld
+    unheld-accepted =
+        accepted-cases Unheld s f
+        (λ e. gone)
+        (λ e. gone)
+        (λ e. valueAt-stored-other (s .commands) (keyOf f) (requestOf (f .payload)) k (λ p. other e (sym p)) ∙ gone)
+        (λ e. valueAt-removed-unheld (s .commands) (keyOf f) k (unheld-valueAt (s .commands) k gone))
+        (λ o i e. gone)
 
     unheld-step : valueAt (stepOf s f .state .commands) k ≡ none
-    unfolding stepOf
-    unheld-step = unheld-judged (rowsOfAny s f (rowsOfType s f))
+    unfolding stepOf Unheld
+    unheld-step = judged-cases Unheld s f (λ r. gone) unheld-accepted (rowsOfAny s f (rowsOfType s f))
 
   -- a response whose request does not wait gives no event
   no-event : (e : Event) → valueAt (s .commands) (keyOf f) ≡ none → f .kind ≡ Types.command-response → stepOf s f .outcome ≡ event e → ⊥
@@ -94,9 +84,14 @@ module _ (s : State) (f : Frame) where
       (λ h. clash (rw (k, a, b, c, t, l, h) at got))))
       (λ t. clash (rw (k, a, b, c, t) at got)))))
 
+unheld-reset : (s : State) (k : ℕ) → valueAt (s .commands) k ≡ none → valueAt (resetOf s .state .commands) k ≡ none
+unfolding resetOf
+unheld-reset s k gone = by (overLimit (s .commands)) (λ e. rw e gone) (λ e. rw e gone)
+
 unheld-since : {k : ℕ} {s t : State} → Since k s t → valueAt (s .commands) k ≡ none → valueAt (t .commands) k ≡ none
 unheld-since here gone = gone
-unheld-since {k} (on {t} r f other) gone = unheld-step t f k (unheld-since r gone) other
+unheld-since {k} (on {t} r (frame f) other) gone = unheld-step t f k (unheld-since r gone) (other f refl)
+unheld-since {k} (on {t} r reset other) gone = unheld-reset t k (unheld-since r gone)
 
 -- once a response has given its event, no response to that request gives one before a new request is stored under the key
 pub answered-once : (s : State) (f : Frame) (e : Event) → Distinct (s .commands) → f .kind ≡ Types.command-response → stepOf s f .outcome ≡ event e → {t : State} → Since (keyOf f) (stepOf s f .state) t → (g : Frame) (e₂ : Event) → g .kind ≡ Types.command-response → keyOf g ≡ keyOf f → stepOf t g .outcome ≡ event e₂ → ⊥

@@ -12,9 +12,11 @@ use Rattle.laws.specs.Bytes.{be16At}
 use Rattle.transport.specs.Number.{numberOf}
 use Rattle.tables.proofs.Places.{getD-places}
 use Rattle.tables.proofs.Maps.{distinct-stored, distinct-removed, isHeld-removed}
+use Rattle.layouts.specs.Layouts.{requestSequence}
 use Rattle.answers.specs.Types
 use Rattle.transport_receiver.specs.State.{State, Frame, Command, stateOf, fresh}
-use Rattle.transport_receiver.specs.Step.{Event, Outcome, refused, event, Result, Row, rowsOfAny, rowsOfType, judged, accepted, stepOf, isOver, overLimit, keyOf, statusOf, numberIn, sequenceOf, requestOf}
+use Rattle.transport_receiver.specs.Step.{Event, Outcome, refused, event, Result, Row, rowsOfAny, rowsOfType, judged, accepted, counting, stepOf, resetOf, isOver, overLimit, keyOf, statusOf, numberIn, requestOf, frame, reset}
+use Rattle.transport_receiver.proofs.Cases.{accepted-cases, judged-cases}
 use Rattle.transport_run.specs.Reached.{Reached, start, on, AllDistinct}
 use Rattle.laws.proofs.Cases.{by}
 
@@ -36,34 +38,31 @@ module _ (s : State) (f : Frame) (d : AllDistinct s) where
   abbrev Kept : Result → Type 0
   Kept r = AllDistinct (r .state)
 
-  same-tables : (cs : List ℕ) → AllDistinct (record { numbers = s .numbers; sequences = s .sequences; commands = s .commands; counters = cs })
+  same-tables : (cs : List ℕ) → AllDistinct (counting s cs)
   same-tables cs = record { numbers = d .numbers; sequences = d .sequences; commands = d .commands }
 
   distinct-accepted : Kept (accepted s f)
   distinct-accepted =
-      by (eqb (f .kind) Types.receive-request) (λ e. rw e (record { numbers = distinct-stored (s .numbers) (f .gateway) (be16At (f .payload) 2) (d .numbers); sequences = d .sequences; commands = d .commands }))
-      (λ e1. by (eqb (f .kind) Types.receive-response) (λ e. rw (e1, e) (record { numbers = distinct-stored (s .numbers) (f .gateway) (numberOf (statusOf f) (f .payload) (numberIn (valueAt (s .numbers) (f .gateway)))) (d .numbers); sequences = d .sequences; commands = d .commands }))
-      (λ e2. by (eqb (f .kind) Types.command-request) (λ e. rw (e1, e2, e) (record { numbers = d .numbers; sequences = distinct-stored (s .sequences) (f .gateway) (sequenceOf (f .payload)) (d .sequences); commands = distinct-stored (s .commands) (keyOf f) (requestOf (f .payload)) (d .commands) }))
-      (λ e3. by (eqb (f .kind) Types.command-response) (λ e. rw (e1, e2, e3, e) (record { numbers = d .numbers; sequences = d .sequences; commands = distinct-removed (s .commands) (keyOf f) (d .commands) }))
-      (λ e4. by (eqb (f .kind) Types.enumeration-start-request) (λ e. rw (e1, e2, e3, e4, e) (same-tables _))
-      (λ e5. by (eqb (f .kind) Types.enumeration-response) (λ e. rw (e1, e2, e3, e4, e5, e) (same-tables _))
-      (λ e6. by (eqb (f .kind) Types.identify-response) (λ e. rw (e1, e2, e3, e4, e5, e6, e) (same-tables _))
-      (λ e7. by (eqb (f .kind) Types.version-response) (λ e. rw (e1, e2, e3, e4, e5, e6, e7, e) (same-tables _))
-      (λ e8. by (eqb (f .kind) Types.enumeration-end-response) (λ e. rw (e1, e2, e3, e4, e5, e6, e7, e8, e) (same-tables _))
-      (λ e9. rw (e1, e2, e3, e4, e5, e6, e7, e8, e9) (same-tables _))))))))))
-
-  distinct-judged : (rows : List Row) → Kept (judged rows s f)
-  distinct-judged [] = distinct-accepted
-  distinct-judged (r ∷ rs) = by (r .holds) (λ e. rw e (same-tables _)) (λ e. rw e (distinct-judged rs))
+      accepted-cases Kept s f
+      (λ e. record { numbers = distinct-stored (s .numbers) (f .gateway) (be16At (f .payload) 2) (d .numbers); sequences = d .sequences; commands = d .commands })
+      (λ e. record { numbers = distinct-stored (s .numbers) (f .gateway) (numberOf (statusOf f) (f .payload) (numberIn (valueAt (s .numbers) (f .gateway)))) (d .numbers); sequences = d .sequences; commands = d .commands })
+      (λ e. record { numbers = d .numbers; sequences = distinct-stored (s .sequences) (f .gateway) (requestSequence (f .payload)) (d .sequences); commands = distinct-stored (s .commands) (keyOf f) (requestOf (f .payload)) (d .commands) })
+      (λ e. record { numbers = d .numbers; sequences = d .sequences; commands = distinct-removed (s .commands) (keyOf f) (d .commands) })
+      (λ o i e. same-tables _)
 
   pub distinct-step : AllDistinct (stepOf s f .state)
   unfolding stepOf
-  distinct-step = distinct-judged (rowsOfAny s f (rowsOfType s f))
+  distinct-step = judged-cases Kept s f (λ r. same-tables _) distinct-accepted (rowsOfAny s f (rowsOfType s f))
+
+pub distinct-reset : (s : State) → AllDistinct s → AllDistinct (resetOf s .state)
+unfolding resetOf
+distinct-reset s d = by (overLimit (s .commands)) (λ e. rw e d) (λ e. rw e (record { numbers = d .numbers; sequences = d .sequences; commands = d .commands }))
 
 -- from fresh no table ever holds two places of one key
 pub distinct-reached : {s : State} → Reached s → AllDistinct s
 distinct-reached start = distinct-fresh
-distinct-reached (on {s} r f) = distinct-step s f (distinct-reached r)
+distinct-reached (on {s} r (frame f)) = distinct-step s f (distinct-reached r)
+distinct-reached (on {s} r reset) = distinct-reset s (distinct-reached r)
 
 -- freeing a place puts no length over its limit
 over-freed : (ps : List (Place Command)) (i : ℕ) → overLimit ps ≡ false → overLimit (set ps i free) ≡ false

@@ -13,14 +13,16 @@ use Rattle.transport.specs.Status.{acceptedOf, neededOf}
 use Rattle.transport.specs.Number.{numberOf}
 use Rattle.tables.specs.Places.{Place, free, held, holds, holder, isHeld, placesOf, hasRoom, stored, removed, valueIn, valueAt, Distinct, inserted, deleted}
 use Rattle.tables.proofs.Maps.{valueAt-stored, valueAt-removed, valueAt-unheld, valueAt-isHeld, holder-holds}
+use Rattle.layouts.specs.Layouts.{requestSequence}
 use Rattle.answers.specs.Types
 use Rattle.transport_receiver.specs.State.{State, Frame, Command, stateOf, fresh}
-use Rattle.transport_receiver.specs.Step.{Event, Outcome, refused, event, Result, Row, rowsOfAny, rowsOfType, judged, accepted, stepOf, overLimit, keyOf, statusOf, numberIn, sequenceOf, requestOf}
+use Rattle.transport_receiver.specs.Step.{Event, Outcome, refused, event, Result, Row, rowsOfAny, rowsOfType, judged, accepted, stepOf, resetOf, overLimit, keyOf, statusOf, numberIn, requestOf, frame, reset}
+use Rattle.transport_receiver.proofs.Cases.{accepted-cases, judged-cases}
 use Rattle.transport_run.specs.Reached.{AllDistinct}
 use Rattle.transport_run.specs.Source.{Maps, noted, answered, requested, sourceOf, isAdded, Agree, noEntries, Follows, start, on}
 use Rattle.transport_run.specs.Reached as reached
 use Rattle.laws.proofs.Cases.{by}
-use Rattle.transport_run.proofs.Reached.{all-free-at, distinct-step, distinct-reached}
+use Rattle.transport_run.proofs.Reached.{all-free-at, distinct-step, distinct-reset, distinct-reached}
 
 untrue : {P : Type 0} → true ≡ false → P
 untrue e = absurd (let z : _≡_ {A = ℕ} 0 1 = cc in omega arith)
@@ -61,7 +63,7 @@ module _ (s : State) (m : Maps) (f : Frame) (d : AllDistinct s) (a : Agree s m) 
         (λ t. by (ltb (length (f .payload)) 5) (λ l. rw (k, o, b, c, t, l) (same _))
         (λ l. by (hasRoom (s .sequences) (f .gateway))
         (λ q. by (hasRoom (s .commands) (keyOf f))
-        (λ r. rw (k, o, b, c, t, l, q, r) (record { numbers = a .numbers; sequences = agree-stored (s .sequences) (m .sequences) (f .gateway) (sequenceOf (f .payload)) (a .sequences) q; commands = agree-stored (s .commands) (m .commands) (keyOf f) (requestOf (f .payload)) (a .commands) r }))
+        (λ r. rw (k, o, b, c, t, l, q, r) (record { numbers = a .numbers; sequences = agree-stored (s .sequences) (m .sequences) (f .gateway) (requestSequence (f .payload)) (a .sequences) q; commands = agree-stored (s .commands) (m .commands) (keyOf f) (requestOf (f .payload)) (a .commands) r }))
         (λ r. untrue (rw (k, o, b, c, t, l, q, r) at n)))
         (λ q. untrue (rw (k, o, b, c, t, l, q) at n))))
 
@@ -99,24 +101,20 @@ module _ (s : State) (m : Maps) (f : Frame) (d : AllDistinct s) (a : Agree s m) 
     module _ (k1 : eqb (f .kind) Types.receive-request ≡ false) (k2 : eqb (f .kind) Types.receive-response ≡ false) (k3 : eqb (f .kind) Types.command-request ≡ false) (k4 : eqb (f .kind) Types.command-response ≡ false) where
       untouched : Agree (accepted s f .state) m
       untouched =
-          by (eqb (f .kind) Types.enumeration-start-request) (λ e. rw (k1, k2, k3, k4, e) (same _))
-          (λ e5. by (eqb (f .kind) Types.enumeration-response) (λ e. rw (k1, k2, k3, k4, e5, e) (same _))
-          (λ e6. by (eqb (f .kind) Types.identify-response) (λ e. rw (k1, k2, k3, k4, e5, e6, e) (same _))
-          (λ e7. by (eqb (f .kind) Types.version-response) (λ e. rw (k1, k2, k3, k4, e5, e6, e7, e) (same _))
-          (λ e8. by (eqb (f .kind) Types.enumeration-end-response) (λ e. rw (k1, k2, k3, k4, e5, e6, e7, e8, e) (same _))
-          (λ e9. rw (k1, k2, k3, k4, e5, e6, e7, e8, e9) (same _))))))
-
-      judged-untouched : (rows : List Row) → Agree (judged rows s f .state) m
-      judged-untouched [] = untouched
-      judged-untouched (r ∷ rs) = by (r .holds) (λ e. rw e (same _)) (λ e. rw e (judged-untouched rs))
+          accepted-cases (λ (r : Result). Agree (r .state) m) s f
+          (λ e. not-this e k1) (λ e. not-this e k2) (λ e. not-this e k3) (λ e. not-this e k4)
+          (λ o i e. same _)
+        where
+          not-this : {P : Type 0} {n : ℕ} → f .kind ≡ n → eqb (f .kind) n ≡ false → P
+          not-this {n = n} e k = absurd (eqb-false (f .kind) n k e)
 
       source-same : sourceOf m f ≡ m
       unfolding sourceOf
-      source-same = rw (k1, k2, k3, k4)
+      source-same = rw (b, k1, k2, k3, k4)
 
       others : Agree (stepOf s f .state) (sourceOf m f)
       unfolding stepOf
-      others = rw source-same (judged-untouched (rowsOfAny s f (rowsOfType s f)))
+      others = rw source-same (judged-cases (λ (r : Result). Agree (r .state) m) s f (λ r. same _) untouched (rowsOfAny s f (rowsOfType s f)))
 
     by-type : Goal
     by-type n =
@@ -126,14 +124,14 @@ module _ (s : State) (m : Maps) (f : Frame) (d : AllDistinct s) (a : Agree s m) 
         (λ e3. by (eqb (f .kind) Types.command-response) (λ e. command-response (eqb-true _ _ e) n)
         (λ e4. others e1 e2 e3 e4))))
 
-  -- 12, 13 and 32 are among the added refusals
+  -- 12 and 32 are among the added refusals; at an ID that 13 refuses nothing changes
   no-12 : overLimit (s .commands) ≡ true → Goal
   unfolding stepOf
   no-12 o n = untrue (rw o at n)
 
   no-13 : overLimit (s .commands) ≡ false → ltb 0x7fff (f .gateway) ≡ true → Goal
-  unfolding stepOf
-  no-13 o b n = untrue (rw (o, b) at n)
+  unfolding stepOf sourceOf
+  no-13 o b n = rw (o, b) (same _)
 
   no-32 : overLimit (s .commands) ≡ false → ltb 0x7fff (f .gateway) ≡ false → ltb 250 (length (f .payload)) ≡ true → Goal
   unfolding stepOf
@@ -154,7 +152,12 @@ agree-fresh : Agree (stateOf fresh) noEntries
 unfolding stateOf
 agree-fresh = record { numbers = λ k. no-entries 32 _ k; sequences = λ k. no-entries 32 _ k; commands = λ k. no-entries 64 _ k }
 
+agree-reset : (s : State) (m : Maps) → Agree s m → Agree (resetOf s .state) m
+unfolding resetOf
+agree-reset s m a = by (overLimit (s .commands)) (λ e. rw e a) (λ e. rw e (record { numbers = a .numbers; sequences = a .sequences; commands = a .commands }))
+
 -- from fresh, up to the first added refusal, no key stands at two places and every look-up is that of the source's maps
 pub agree-follows : {s : State} {m : Maps} → Follows s m → AllDistinct s × Agree s m
 agree-follows start = (distinct-reached reached.start, agree-fresh)
-agree-follows (on {s} {m} r f n) = (distinct-step s f (agree-follows r .0), agree-step s m f (agree-follows r .0) (agree-follows r .1) n)
+agree-follows (on {s} {m} r (frame f) n) = (distinct-step s f (agree-follows r .0), agree-step s m f (agree-follows r .0) (agree-follows r .1) n)
+agree-follows (on {s} {m} r reset n) = (distinct-reset s (agree-follows r .0), agree-reset s m (agree-follows r .1))

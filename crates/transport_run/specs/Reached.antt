@@ -1,14 +1,14 @@
--- The states that frames lead to from a fresh receiver, and what holds of them. Assumes nothing.
+-- The states that inputs, frames and resets, lead to from a fresh receiver, and what holds of them. Assumes nothing.
 use mathlib.Core.Path.{_≡_}
 use Prim.Native.Nat.{ℕ}
 use Rattle.tables.specs.Places.{Distinct}
 use Rattle.answers.specs.Types
 use Rattle.transport_receiver.specs.State.{State, Frame, stateOf, fresh}
-use Rattle.transport_receiver.specs.Step.{stepOf, keyOf}
+use Rattle.transport_receiver.specs.Step.{keyOf, Input, frame, takenOf}
 
 pub data Reached : State → Type 0 where
   start : Reached (stateOf fresh)
-  on : {s : State} → Reached s → (f : Frame) → Reached (stepOf s f .state)
+  on : {s : State} → Reached s → (i : Input) → Reached (takenOf s i .state)
 
 -- no table holds two places of one key
 pub record AllDistinct (s : State) : Type 0 where
@@ -16,10 +16,10 @@ pub record AllDistinct (s : State) : Type 0 where
   pub sequences : Distinct (s .sequences)
   pub commands : Distinct (s .commands)
 
--- frames that lead from one state to another, none of them a command request under the key k
+-- inputs that lead from one state to another, none of them a command request under the key k
 pub data Since (k : ℕ) (s : State) : State → Type 0 where
   here : Since k s s
-  on : {t : State} → Since k s t → (f : Frame) → (f .kind ≡ Types.command-request → keyOf f ≡ k → ⊥) → Since k s (stepOf t f .state)
+  on : {t : State} → Since k s t → (i : Input) → ((f : Frame) → i ≡ frame f → f .kind ≡ Types.command-request → keyOf f ≡ k → ⊥) → Since k s (takenOf t i .state)
 
 -- two states with the same entries at the same places
 pub record SameTables (s t : State) : Type 0 where

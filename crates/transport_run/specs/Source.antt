@@ -7,19 +7,23 @@ use mathlib.Core.List.{List, [], _∷_}
 use mathlib.Core.Option.{Option, none, some}
 use lib.ListN.{length}
 use lib.Dec.{eqb, ltb}
-use Rattle.laws.specs.Bytes.{be16At}
+use Rattle.address.specs.Address.{idLimit}
 use Rattle.tables.specs.Places.{valueAt, inserted, deleted}
 use Rattle.transport.specs.Status.{acceptedOf, neededOf}
 use Rattle.transport.specs.Number.{numberOf}
+use Rattle.layouts.specs.Layouts.{commandRequestLength, commandResponseLength, receiveRequestLength, requestSequence, requestedNumber}
 use Rattle.answers.specs.Types
 use Rattle.answers.specs.Types.{isOneOf}
 use Rattle.transport_receiver.specs.State.{State, Frame, Command, stateOf, fresh}
-use Rattle.transport_receiver.specs.Step.{stepOf, Outcome, refused, short, silent, event, statusOf, sequenceOf, keyOf, requestOf}
+use Rattle.transport_receiver.specs.Step.{Outcome, refused, short, silent, event, statusOf, keyOf, answerKeyOf, requestOf, Input, frame, reset, takenOf}
 
 pub record Maps : Type 0 where
   pub numbers : ℕ → Option ℕ
   pub sequences : ℕ → Option ℕ
   pub commands : ℕ → Option Command
+
+abbrev pub noEntries : Maps
+noEntries = record { numbers = λ k. none; sequences = λ k. none; commands = λ k. none }
 
 abbrev pub noted : Maps → ℕ → ℕ → Maps
 noted m gateway number =
@@ -38,22 +42,28 @@ abbrev pub requested : Maps → Frame → Maps
 requested m f =
     record {
       numbers = m .numbers;
-      sequences = inserted (m .sequences) (f .gateway) (sequenceOf (f .payload));
+      sequences = inserted (m .sequences) (f .gateway) (requestSequence (f .payload));
       commands = inserted (m .commands) (keyOf f) (requestOf (f .payload));
     }
 
--- receiver.rs, `frame`: four types touch a map
+-- receiver.rs, `frame`: four types touch a map. An ID above 7fff, which 13 refuses, the source cannot have
 unfoldable pub sourceOf : Maps → Frame → Maps
 sourceOf m f =
-    cond (eqb (f .kind) Types.receive-request) (cond (f .from) m (cond (eqb (length (f .payload)) 5) (noted m (f .gateway) (be16At (f .payload) 2)) m))
+    cond (ltb idLimit (f .gateway)) m
+    (cond (eqb (f .kind) Types.receive-request) (cond (f .from) m (cond (eqb (length (f .payload)) receiveRequestLength) (noted m (f .gateway) (requestedNumber (f .payload))) m))
     (cond (eqb (f .kind) Types.receive-response) (cond (f .from) (answered m f (m .numbers (f .gateway))) m)
-    (cond (eqb (f .kind) Types.command-request) (cond (f .from) m (cond (ltb (length (f .payload)) 5) m (requested m f)))
-    (cond (eqb (f .kind) Types.command-response) (cond (f .from) (cond (ltb (length (f .payload)) 5) m (record { numbers = m .numbers; sequences = m .sequences; commands = deleted (m .commands) (keyOf f) })) m)
-    m)))
+    (cond (eqb (f .kind) Types.command-request) (cond (f .from) m (cond (ltb (length (f .payload)) commandRequestLength) m (requested m f)))
+    (cond (eqb (f .kind) Types.command-response) (cond (f .from) (cond (ltb (length (f .payload)) commandResponseLength) m (record { numbers = m .numbers; sequences = m .sequences; commands = deleted (m .commands) (answerKeyOf f) })) m)
+    m))))
 
--- 01, "What comes over": the refusals that are added, of those that a step gives: the source has none of them
+-- the counters' reset touches no map
+abbrev pub sourceAfter : Maps → Input → Maps
+sourceAfter m (frame f) = sourceOf m f
+sourceAfter m reset = m
+
+-- 01, "What comes over": .. in the whole run so far, no refusal 10 to 12, 25 to 27, 32, 40 or 41, which are added: those that a step or a reset gives
 abbrev pub isAdded : Outcome → Bool
-isAdded (refused n) = isOneOf (12 ∷ 13 ∷ 25 ∷ 26 ∷ 27 ∷ 32 ∷ []) n
+isAdded (refused n) = isOneOf (12 ∷ 25 ∷ 26 ∷ 27 ∷ 32 ∷ []) n
 isAdded (short n) = false
 isAdded silent = false
 isAdded (event e) = false
@@ -64,10 +74,7 @@ pub record Agree (s : State) (m : Maps) : Type 0 where
   pub sequences : (k : ℕ) → valueAt (s .sequences) k ≡ m .sequences k
   pub commands : (k : ℕ) → valueAt (s .commands) k ≡ m .commands k
 
-abbrev pub noEntries : Maps
-noEntries = record { numbers = λ k. none; sequences = λ k. none; commands = λ k. none }
-
--- the states that frames lead to from fresh with no added refusal on the way, and the source's maps after the same frames
+-- the states that inputs lead to from fresh with no added refusal on the way, and the source's maps after the same inputs
 pub data Follows : State → Maps → Type 0 where
   start : Follows (stateOf fresh) noEntries
-  on : {s : State} {m : Maps} → Follows s m → (f : Frame) → isAdded (stepOf s f .outcome) ≡ false → Follows (stepOf s f .state) (sourceOf m f)
+  on : {s : State} {m : Maps} → Follows s m → (i : Input) → isAdded (takenOf s i .outcome) ≡ false → Follows (takenOf s i .state) (sourceAfter m i)

@@ -23,9 +23,7 @@ put-answer-requires : tie.Need-put-answer-requires Inv-loop μ-loop
 put-answer-requires c κs = search needs
 
 loop-less : tie.Need-loop-less Inv-loop μ-loop
-loop-less c =
-    let on = c .before .before .before .before .before .feed-from .ensures .1 .1 .1 .0 (search needs) in
-    search needs
+loop-less c = search needs
 
 loop-again : tie.Need-loop-again Inv-loop μ-loop
 loop-again c = search needs
@@ -36,6 +34,12 @@ same-length c = search needs
 returns : tie.Need-returns Inv-loop μ-loop
 returns c = search needs
 
+same-length-2 : tie.Need-same-length-2 Inv-loop μ-loop
+same-length-2 c = search needs
+
+returns-2 : tie.Need-returns-2 Inv-loop μ-loop
+returns-2 c = search needs
+
 pub print-block-spec : {M : Type 1} → statement M
 print-block-spec =
     tie.close
@@ -45,7 +49,9 @@ print-block-spec =
     loop-holds
     feed-from-requires
     put-answer-requires
+    same-length
+    returns
     loop-less
     loop-again
-    same-length
-    returns)
+    same-length-2
+    returns-2)

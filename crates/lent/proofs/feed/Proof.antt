@@ -47,7 +47,7 @@ use Rattle.link_receive.specs.declared.Receiver.{Receiver}
 use Rattle.link_feed.specs.declared.Fed.{Fed}
 use Rattle.crc.specs.Crc.{crcOf}
 use Rattle.link_feed.specs.Feed.{feedOf}
-use Rattle.lent.specs.Lent.{lentTo}
+use Rattle.link_feed.specs.Tallies.{lentTo}
 use Rattle.link_receive.proofs.Tallies as T
 use Rattle.link_receive.proofs.Tallies.Laws as T′
 use Rattle.link_receive.proofs.Receiver as S

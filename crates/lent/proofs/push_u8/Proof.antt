@@ -45,7 +45,7 @@ use Rattle.link_receive.specs.declared.Receiver.{Receiver}
 use Rattle.link_receive.specs.declared.Stepped.{Stepped}
 use Rattle.crc.specs.Crc.{crcOf}
 use Rattle.link_receive.specs.Step.{stepOf}
-use Rattle.lent.specs.Lent.{lentTo}
+use Rattle.link_feed.specs.Tallies.{lentTo}
 use Rattle.link_receive.proofs.Tallies as T
 use Rattle.link_receive.proofs.Tallies.Laws as T′
 use Rattle.link_receive.proofs.Receiver as S

@@ -2,7 +2,9 @@
 use mathlib.Core.Path.{sym}
 use native.Mathlib.Omega.{arith}
 use lib.Seq.{length-take-le}
+use Rattle.address.proofs.Laws.{numberOf-addressOf}
 use Rattle.crc.specs.Crc.{crcOf}
+use Rattle.link.specs.Wire.{frameAt}
 use Rattle.link.proofs.Writes.{assembled}
 use borrow.Author.Needs.{needs}
 use Rattle.link.proofs.assemble.Statement.{statement}
@@ -59,7 +61,8 @@ same-length c = search needs
 returns : tie.Need-returns
 returns c =
     let a = c .before .before .before .before .before .before .before .before .before .before .before .before .before .before .before .before .before .before .before .before .before .before .before .before .args in
-    assembled crcOf (record { address = a .number; kind = a .kind; payload = a .payload .now }) (a .body .now) _ _ _ _ _ _ _ _ _ _
+    assembled crcOf (frameAt (a .number) (a .kind) (a .payload .now)) (a .number) (a .body .now) _ _ _ _ _ _ _ _ _ _
+    (numberOf-addressOf (a .number))
     (c .before .before .before .before .before .before .before .before .before .before .before .before .before .before .before .before .before .before .before .before .before .high .ensures)
     (c .before .before .before .before .before .before .before .before .before .before .before .before .before .before .before .before .before .before .before .before .low .ensures)
     (c .before .before .before .before .before .before .before .before .before .before .before .before .before .before .before .before .before .before .before .high2 .ensures)

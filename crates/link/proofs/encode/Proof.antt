@@ -1,8 +1,9 @@
 -- `link::encode` asks for the address's number first, which is refused by 13. Assumes nothing.
 use mathlib.Core.Path.{sym, ap, _∙_}
 use borrow.Author.Tests.{lt-ltb, le-ltb}
+use Rattle.address.specs.Address.{addressOf}
 use Rattle.address.specs.Handed.{handedNumber}
-use Rattle.address.proofs.Laws.{number-accepted, number-refused}
+use Rattle.address.proofs.Laws.{number-accepted, number-refused, addressOf-numberOf}
 use Rattle.link.specs.Handed.{encodeHanded, encodeBytes}
 use borrow.Author.Needs.{needs}
 use Rattle.link.proofs.encode.Statement.{statement}
@@ -29,7 +30,8 @@ returns c =
     let a = c .before .before .before .before .before .before .before .before .before .before .args in
     let x = number-accepted (a .address) _ (sym (c .before .before .before .before .before .before .before .to-u16 .ensures) ∙ ap handedNumber (c .before .before .before .before .before .number .given .1)) in
     let e = le-ltb _ _ (x .0) in
-    (rw (e, ← x .1) (c .before .before .encode-numbered .ensures .0), rw (e, ← x .1) (c .before .before .encode-numbered .ensures .1))
+    let y = ap addressOf (x .1) ∙ addressOf-numberOf (a .address) (x .0) in
+    (rw e (rw y at (c .before .before .encode-numbered .ensures .0)), rw e (rw y at (c .before .before .encode-numbered .ensures .1)))
 
 returns-2 : tie.Need-returns-2
 unfolding encodeHanded encodeBytes

@@ -4,8 +4,9 @@ use native.Mathlib.Omega.{arith}
 use lib.ListN.{replicate, length-take}
 use lib.Seq.{length-take-le}
 use borrow.Author.Tests.{lt-ltb, le-ltb}
+use Rattle.address.proofs.Laws.{numberOf-addressOf}
 use Rattle.crc.specs.Crc.{crcOf}
-use Rattle.link.specs.Wire.{Frame, encodedOf}
+use Rattle.link.specs.Wire.{Frame, frameAt, encodedOf}
 use Rattle.link.specs.Handed.{numberedHanded, numberedBytes}
 use Rattle.link.proofs.Body.{body-taken}
 use borrow.Author.Needs.{needs}
@@ -41,10 +42,10 @@ returns-2 : tie.Need-returns-2
 unfolding numberedHanded numberedBytes encodedOf
 returns-2 c =
     let a = c .before .before .before .before .before .before .before .before .before .before .before .args in
-    let f : Frame = record { address = a .number; kind = a .kind; payload = a .payload .now } in
+    let f : Frame = frameAt (a .number) (a .kind) (a .payload .now) in
     let e = le-ltb _ _ (c .before .before .before .before .before .before .before .before .if1 .left) in
     let b = body-taken crcOf f _ (replicate 256 0) (c .before .before .before .before .before .before .assemble .ensures) in
-    (rw (e, ← b) (c .before .before .write-body .ensures .0), rw (e, ← b) (c .before .before .write-body .ensures .1))
+    (rw (e, ← b, numberOf-addressOf (a .number)) (c .before .before .write-body .ensures .0), rw (e, ← b, numberOf-addressOf (a .number)) (c .before .before .write-body .ensures .1))
 
 pub encode-numbered-spec : {M : Type 1} → statement M
 encode-numbered-spec =

@@ -8,7 +8,8 @@ use Rattle.link_receive.specs.declared.Receiver.{Receiver}
 use Rattle.link_receive.specs.declared.Tallies.{Tallies}
 use Rattle.link_receive.specs.Numbered.{stateNumber, talliesAt}
 use Rattle.link_receive.specs.Step.{quiet}
-use Rattle.link_receive.proofs.Numbers.{receiverAt-placeOf}
+use Rattle.link_receive.specs.declared.numbered.Placed.{Placed}
+use Rattle.link_receive.proofs.Numbers.{receiverAt-placeOf, placedOf-within}
 use Rattle.link_feed.specs.declared.Fed.{Fed}
 use Rattle.link_feed.specs.Drain.{drainOf, extendOf}
 use Rattle.link_feed.specs.Advance.{madeOf, heldOf}
@@ -47,16 +48,16 @@ receiver-at-requires c κs = search needs
 returns-2 : tie.Need-returns-2
 unfolding extendOf
 returns-2 c =
-    let a = c .before .before .before .before .before .before .before .before .before .before .before .args in
+    let a = c .before .before .before .before .before .before .before .before .before .before .before .before .args in
     let r = a .r in
     let f = c .before .before .before .before .advance in
     let place = f .last .1 .1 .0 in
     let ten : length place ≡ 10 = search needs in
     let held : Receiver = heldOf (f .result .state) (f .last .1 .1 .1 .0) (f .result .len) place in
     let back : c .receiver-at .result ≡ held = c .receiver-at .ensures ∙ rw (c .before .state-number .ensures, place-set place (stateNumber (f .result .state)) (f .result .len) ten) (receiverAt-placeOf held) in
-    rw (le-ltb _ _ (c .before .before .before .before .before .before .before .before .before .if1 .left), back)
+    rw (le-ltb _ _ (c .before .before .before .before .before .before .before .before .before .before .if1 .left), back)
     (ap (λ (x : Fed). quiet (x .next)) (f .ensures)
-    ∙ ap (λ (x : Tallies). quiet (drainOf crcOf (madeOf (r .state) (r .body) (r .len) x) (a .s .now))) (ap talliesAt (c .before .before .before .before .before .before .before .place-of .ensures) ∙ ap (λ (x : Receiver). x .tallies) (receiverAt-placeOf r)))
+    ∙ ap (λ (x : Tallies). quiet (drainOf crcOf (madeOf (r .state) (r .body) (r .len) x) (a .s .now))) (ap talliesAt (ap (λ (x : Placed). x .place) (c .before .before .before .before .before .before .before .before .place-of .ensures) ∙ placedOf-within r (c .before .before .before .before .before .before .before .before .before .before .if1 .left)) ∙ ap (λ (x : Receiver). x .tallies) (receiverAt-placeOf r)))
 
 pub extend-from-slice-spec : {M : Type 1} → statement M
 extend-from-slice-spec =

@@ -1,14 +1,22 @@
--- `link_feed::feed` puts the receiver into ten numbers, lends them, and reads them back. Assumes nothing.
-use mathlib.Core.Path.{_≡_}
+-- `link_feed::feed` asks for 12, puts the receiver into ten numbers, lends them, and reads them back. Assumes nothing.
+use mathlib.Core.Path.{_≡_, ap, _∙_}
+use mathlib.Core.List.{List}
+use Prim.Native.Nat.{ℕ}
+use borrow.Author.Tests.{lt-ltb}
 use borrow.Author.Needs.{needs}
 use Rattle.crc.specs.Crc.{crcOf}
+use Rattle.link_receive.specs.declared.numbered.Placed.{Placed}
 use Rattle.link_receive.specs.Numbered.{placeOf}
-use Rattle.link_receive.proofs.Numbers.{receiverAt-placeOf}
+use Rattle.link_receive.proofs.Numbers.{receiverAt-placeOf, placedOf-within}
 use Rattle.link_feed.specs.Feed.{feedOf}
 use Rattle.link_feed.specs.Lent.{fedInOf, placeFed}
 use Rattle.link_feed.proofs.Lent.{fed-back}
 use Rattle.link_feed.proofs.feed.Statement.{statement}
 use Rattle.link_feed.proofs.feed.Tie as tie
+
+returns : tie.Need-returns
+unfolding feedOf
+returns c = rw (lt-ltb _ _ (c .if1 .taken))
 
 place-of-requires : tie.Need-place-of-requires
 place-of-requires c κs = search needs
@@ -19,14 +27,16 @@ feed-in-requires c κs = search needs
 receiver-at-requires : tie.Need-receiver-at-requires
 receiver-at-requires c κs = search needs
 
-returns : tie.Need-returns
-returns c =
-    let a = c .before .before .before .before .before .before .before .args in
+returns-2 : tie.Need-returns-2
+returns-2 c =
+    let a = c .before .before .before .before .before .before .before .before .before .args in
     let r = a .r in
-    let put = c .before .before .before .before .place-of .ensures in
+    let within = c .before .before .before .before .before .before .before .if1 .left in
+    let put = ap (λ (x : Placed). x .place) (c .before .before .before .before .before .place-of .ensures) ∙ placedOf-within r within in
     let f = c .before .feed-in in
     let e : f .result ≡ fedInOf (feedOf crcOf r (a .s .now)) = rw (put, receiverAt-placeOf r) at (f .ensures .0) in
     rw (c .receiver-at .ensures, e, (rw (put, receiverAt-placeOf r) at (f .ensures .1 .0)), (rw (put, receiverAt-placeOf r) at (f .ensures .1 .1)), fed-back crcOf r (a .s .now))
 
 pub feed-spec : {M : Type 1} → statement M
-feed-spec = tie.close (tie.spec place-of-requires feed-in-requires receiver-at-requires returns)
+feed-spec =
+    tie.close (tie.spec returns place-of-requires feed-in-requires receiver-at-requires returns-2)

@@ -1,6 +1,17 @@
--- `doors::receiver::johkkesir_ledger` gives a fresh receiver the whole slice and lays out its numbers. Assumes nothing.
-use mathlib.Core.Path.{_≡_}
+-- `doors::receiver::johkkesir_ledger` takes the slice in and lays out the receiver's numbers, which 12 does not refuse. Assumes nothing.
+use mathlib.Core.Path.{_≡_, ap, _∙_}
+use native.Mathlib.Omega.{arith}
 use borrow.Author.Needs.{needs}
+use Rattle.crc.specs.Crc.{crcOf}
+use Rattle.link_receive.specs.declared.Receiver.{Receiver}
+use Rattle.link_receive.specs.declared.Stepped.{Stepped}
+use Rattle.link_receive.specs.declared.numbered.Placed.{Placed}
+use Rattle.link_receive.specs.Numbered.{placedOf}
+use Rattle.link_receive.specs.Step.{freshOf}
+use Rattle.link_receive.proofs.Numbers.{placedOf-within}
+use Rattle.link_feed.specs.Drain.{extendOf}
+use Rattle.link_feed.proofs.Drains.{extendOf-within}
+use Rattle.doors.specs.Receivers.{heardOf}
 use Rattle.doors.proofs.receiver.johkkesir_ledger.Statement.{statement}
 use Rattle.doors.proofs.receiver.johkkesir_ledger.Tie as tie
 
@@ -14,7 +25,11 @@ place-of-requires : tie.Need-place-of-requires
 place-of-requires c κs = search needs
 
 returns : tie.Need-returns
-returns c = rw (c .place-of .ensures, c .before .before .extend-from-slice .ensures, c .before .before .before .new .ensures)
+returns c =
+    let s = c .before .before .before .before .before .before .args .s .now in
+    let e = c .before .before .before .extend-from-slice .ensures ∙ ap (λ (r : Receiver). extendOf crcOf r s) (c .before .before .before .before .new .ensures) in
+    ap (λ (p : Placed). p .place) (c .before .place-of .ensures ∙ ap (λ (x : Stepped). placedOf (x .next)) e)
+    ∙ placedOf-within (heardOf s) (extendOf-within crcOf freshOf s (omega arith))
 
 pub johkkesir-ledger-spec : {M : Type 1} → statement M
 johkkesir-ledger-spec =

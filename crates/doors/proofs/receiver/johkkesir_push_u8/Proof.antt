@@ -1,8 +1,34 @@
--- `doors::receiver::johkkesir_push_u8` hands a byte to the receiver that it is lent and lays out what comes back. Assumes nothing.
-use mathlib.Core.Path.{_≡_}
+-- `doors::receiver::johkkesir_push_u8` asks for 12, hands a byte to the receiver that it is lent and lays out what comes back. Assumes nothing.
+use mathlib.Core.Path.{_≡_, refl, ap, _∙_}
+use borrow.Author.Tests.{lt-ltb, le-ltb}
 use borrow.Author.Needs.{needs}
+use Rattle.crc.specs.Crc.{crcOf}
+use Rattle.link_receive.specs.declared.Answer.{Answer}
+use Rattle.link_receive.specs.declared.Answer.the-variants as answer
+use Rattle.link_receive.specs.declared.numbered.Placed.{Placed}
+use Rattle.link_receive.specs.Numbered.{receiverAt}
+use Rattle.link_receive.specs.Step.{stepOf}
+use Rattle.link_receive.proofs.Numbers.{placedOf-within}
+use Rattle.link_receive.proofs.Steps.{stepOf-over}
+use Rattle.link_feed.proofs.Drains.{stepOf-steady}
+use Rattle.doors.specs.Receivers.{takenBy}
 use Rattle.doors.proofs.receiver.johkkesir_push_u8.Statement.{statement}
 use Rattle.doors.proofs.receiver.johkkesir_push_u8.Tie as tie
+
+-- a step that is no refusal takes its byte
+taken-one : (a : Answer) → (a ≡ answer.Refused → ⊥) → takenBy a ≡ 1
+taken-one answer.Nothing n = refl
+taken-one (answer.Frame address t len) n = refl
+taken-one answer.Refused n = absurd (n refl)
+
+array-read-if1 : tie.Need-array-read-if1
+array-read-if1 c = search needs
+
+returns : tie.Need-returns
+returns c =
+    let a = c .before .before .args in
+    let o = stepOf-over crcOf (receiverAt (a .place .now) (a .body .now)) (a .b) (c .if1 .taken) in
+    (rw o, (rw (lt-ltb _ _ (c .if1 .taken)), (rw o, rw o)))
 
 receiver-at-requires : tie.Need-receiver-at-requires
 receiver-at-requires c κs = search needs
@@ -19,19 +45,28 @@ found-by-requires c κs = search needs
 told-by-requires : tie.Need-told-by-requires
 told-by-requires c κs = search needs
 
-returns : tie.Need-returns
-returns c =
-    let f = c .before .before .before .before .before .push-u8 .ensures in
-    let r = c .before .before .before .before .before .before .receiver-at .ensures in
-    (rw (c .told-by .ensures, f, r), (rw (c .before .before .place-of .ensures, f, r), (rw (f, r), rw (c .before .found-by .ensures, f, r))))
+returns-2 : tie.Need-returns-2
+returns-2 c =
+    let a = c .before .before .before .before .before .before .before .before .before .before .before .args in
+    let q = receiverAt (a .place .now) (a .body .now) in
+    let f = c .before .before .before .before .before .before .push-u8 .ensures in
+    let r = c .before .before .before .before .before .before .before .receiver-at .ensures in
+    let within = c .before .before .before .before .before .before .before .before .before .if1 .left in
+    let steady = stepOf-steady crcOf q (a .b) within in
+    let put = ap (λ (p : Placed). p .place) (c .before .before .before .place-of .ensures) in (
+      rw (c .told-by .ensures, f, r),
+      (rw (put, f, r, le-ltb _ _ within) (placedOf-within (stepOf crcOf q (a .b) .next) (steady .within)), (rw (f, r), rw (c .before .found-by .ensures, f, r, taken-one (stepOf crcOf q (a .b) .answer) (steady .answers)))),
+    )
 
 pub johkkesir-push-u8-spec : {M : Type 1} → statement M
 johkkesir-push-u8-spec =
     tie.close
     (tie.spec
+    array-read-if1
+    returns
     receiver-at-requires
     push-u8-requires
     place-of-requires
     found-by-requires
     told-by-requires
-    returns)
+    returns-2)

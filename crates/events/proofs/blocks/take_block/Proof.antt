@@ -25,9 +25,7 @@ take-answer-requires : tie.Need-take-answer-requires Inv-loop μ-loop
 take-answer-requires c κs = search needs
 
 loop-less : tie.Need-loop-less Inv-loop μ-loop
-loop-less c =
-    let on = c .before .before .before .before .before .before .before .before .before .before .before .before .before .before .feed-from .ensures .1 .1 .1 .0 (search needs) in
-    search needs
+loop-less c = search needs
 
 loop-again : tie.Need-loop-again Inv-loop μ-loop
 loop-again c = search needs
@@ -38,6 +36,12 @@ same-length c = search needs
 returns : tie.Need-returns Inv-loop μ-loop
 returns c = search needs
 
+same-length-2 : tie.Need-same-length-2 Inv-loop μ-loop
+same-length-2 c = search needs
+
+returns-2 : tie.Need-returns-2 Inv-loop μ-loop
+returns-2 c = search needs
+
 pub take-block-spec : {M : Type 1} → statement M
 take-block-spec =
     tie.close
@@ -47,7 +51,9 @@ take-block-spec =
     loop-holds
     feed-from-requires
     take-answer-requires
+    same-length
+    returns
     loop-less
     loop-again
-    same-length
-    returns)
+    same-length-2
+    returns-2)

@@ -1,5 +1,7 @@
 -- `Receiver::reset_counters` is right: the counters alone are changed. Assumes nothing.
+use mathlib.Core.Path.{sym, _∙_}
 use Rattle.transport_receiver.specs.Lent.{resetIn}
+use Rattle.transport_receiver.proofs.Refines.{reset-refused, reset-done}
 use borrow.Author.Needs.{needs}
 use Rattle.transport_receiver.proofs.Receiver.reset_counters.Statement.{statement}
 use Rattle.transport_receiver.proofs.Receiver.reset_counters.Tie as tie
@@ -15,11 +17,13 @@ over-requires c κs = search needs
 
 returns : tie.Need-returns
 unfolding resetIn
-returns c = rw (← c .before .over .ensures, c .if1 .taken)
+returns c =
+    (rw (← c .before .over .ensures, c .if1 .taken), reset-refused (c .before .before .before .before .before .before .args .self) (sym (c .before .over .ensures) ∙ c .if1 .taken))
 
 returns-2 : tie.Need-returns-2
 unfolding resetIn
-returns-2 c = rw (← c .before .over .ensures, c .if1 .left)
+returns-2 c =
+    (rw (← c .before .over .ensures, c .if1 .left), reset-done (c .before .before .before .before .before .before .args .self) (sym (c .before .over .ensures) ∙ c .if1 .left))
 
 pub reset-counters-spec : {M : Type 1} → statement M
 reset-counters-spec =
