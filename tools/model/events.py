@@ -51,6 +51,7 @@ NAMED = set(ACCEPTED) | {COMMAND_REQUEST}
 TO = {RECEIVE_REQUEST, COMMAND_REQUEST, START_REQUEST}
 FROM = {RECEIVE_RESPONSE, COMMAND_RESPONSE, ENUMERATION_RESPONSE, IDENTIFY_RESPONSE, VERSION_RESPONSE, END_RESPONSE}
 NUMBERS, SEQUENCES, COMMANDS = 32, 32, 64
+HELD = 245  # the most payload bytes of a waiting command
 
 
 def number(data):
@@ -82,14 +83,62 @@ def packets(area):
     return out, area
 
 
+class Table:
+    """So many places, each free (None) or holding a key and a value. Of a key held twice the first place counts; a new entry goes to the first
+    free place (docs/DECISIONS.md)."""
+
+    def __init__(self, size):
+        self.places = [None] * size
+
+    def place(self, key):
+        return next((i for i, held in enumerate(self.places) if held and held[0] == key), None)
+
+    def full(self):
+        return None not in self.places
+
+    def __contains__(self, key):
+        return self.place(key) is not None
+
+    def __getitem__(self, key):
+        return self.places[self.place(key)][1]
+
+    def get(self, key):
+        return self[key] if key in self else None
+
+    def __setitem__(self, key, value):
+        i = self.place(key)
+        self.places[self.places.index(None) if i is None else i] = key, value
+
+    def pop(self, key):
+        i = self.place(key)
+        value, self.places[i] = self.places[i][1], None
+        return value
+
+
 class Receiver:
     def __init__(self):
-        self.numbers, self.sequences, self.commands = {}, {}, {}
+        self.numbers, self.sequences, self.commands = Table(NUMBERS), Table(SEQUENCES), Table(COMMANDS)
         self.counters = collections.Counter()
+
+    def add(self, name, n=1):
+        self.counters[name] = (self.counters[name] + n) % 2**64
+
+    def over(self):
+        """12: a length of the state is over its limit. Only a waiting command has one."""
+        return any(held and len(held[1][1]) > HELD for held in self.commands.places)
+
+    def reset(self):
+        """12, or None and the counters at 0."""
+        if self.over():
+            return 12
+        self.counters.clear()
+        return None
 
     def refusal(self, sender, gateway, kind, p):
         """The first row of 01's table that holds, in its order, or None: its number, and the counter that it raises."""
         bad = INVALID.get(kind)
+        if self.over():
+            return 12, None
         if gateway > 0x7FFF:
             return 13, None
         if len(p) > 250:
@@ -114,11 +163,11 @@ class Receiver:
             return 28, bad
         if kind == VERSION_RESPONSE and not is_text(p):
             return 29, bad
-        if kind == COMMAND_REQUEST and gateway not in self.sequences and len(self.sequences) == SEQUENCES:
+        if kind == COMMAND_REQUEST and gateway not in self.sequences and self.sequences.full():
             return 26, None
-        if kind == COMMAND_REQUEST and (gateway, p[4]) not in self.commands and len(self.commands) == COMMANDS:
+        if kind == COMMAND_REQUEST and (gateway, p[4]) not in self.commands and self.commands.full():
             return 27, None
-        if kind == RECEIVE_REQUEST and gateway not in self.numbers and len(self.numbers) == NUMBERS:
+        if kind == RECEIVE_REQUEST and gateway not in self.numbers and self.numbers.full():
             return 25, None
         if kind == COMMAND_RESPONSE and (gateway, p[4]) not in self.commands:
             return 30, "retransmitted_command_responses"
@@ -140,8 +189,8 @@ class Receiver:
         assert at + 2 == needed(status)
         self.numbers[gateway] = new
         whole, rest = packets(area)
-        self.counters["receive_packets"] += len(whole)
-        self.counters["receive_packet_too_short"] += bool(rest)
+        self.add("receive_packets", len(whole))
+        self.add("receive_packet_too_short", bool(rest))
         return [(6, gateway, slot + bytes([new == before]))] + [(7, gateway, packet) for packet in whole]
 
     def step(self, sender, gateway, kind, p):
@@ -149,15 +198,15 @@ class Receiver:
         found = self.refusal(sender, gateway, kind, p)
         if found:
             if found[1]:
-                self.counters[found[1]] += 1
+                self.add(found[1])
             return found[0]
         if kind == COMMAND_REQUEST:
             again = self.sequences.get(gateway) == p[4]
-            self.counters["retransmitted_command_requests" if again else "command_requests"] += 1
+            self.add("retransmitted_command_requests" if again else "command_requests")
             self.sequences[gateway] = p[4]
             self.commands[gateway, p[4]] = p[3], p[5:]
             return []
-        self.counters[ACCEPTED[kind]] += 1
+        self.add(ACCEPTED[kind])
         if kind == RECEIVE_REQUEST:
             self.numbers[gateway] = number(p[2:4])
             return [(5, gateway, b"")]

@@ -11,12 +11,12 @@ import struct
 OUT = 'crates/vectors_payloads/data'
 
 
-def row(kind, answer, data, rule):
-    return f'{kind} {answer:x} {bytes(data).hex() or "-"} {rule}\n'
+def row(letter, answer, data, rule):
+    return f'{letter} {answer:x} {bytes(data).hex() or "-"} {rule}\n'
 
 
 def write(name, about, rows):
-    head = f'# {about}\n# made by tools/vectors/payloads.py; a row is kind, answer, input, rule\n'
+    head = f'# {about}\n# made by tools/vectors/payloads.py; a row is letter, answer, input, rule\n'
     seen, out = set(), []
     for r in rows:
         key = tuple(r.split(' ')[:3])
@@ -27,7 +27,7 @@ def write(name, about, rows):
         f.write(head + ''.join(out))
 
 
-# UTF-8: kind u
+# UTF-8: letter u
 
 def utf8_row(data, rule):
     try:
@@ -81,7 +81,7 @@ def utf8_rows():
         yield utf8_row([rng.choice(edges) for _ in range(rng.randrange(2, 9))], 'edges at random')
 
 
-# Packet areas: kind p, whole packets * 16 + too short
+# Packet areas: letter p, whole packets * 16 + too short
 
 def area_row(area, rule):
     packets, at, short = 0, 0, 0
@@ -117,7 +117,7 @@ def area_rows():
         yield area_row(area[:rng.randrange(len(area) + 1)], 'cut at random')
 
 
-# Status words: kind s, the length needed or 16 (22) if refused
+# Status words: letter s, the length needed or 16 (22) if refused
 
 def needed(status):
     if status & 0xe0 != 0xe0:
@@ -135,7 +135,7 @@ def status_rows():
         yield row('s', needed(status), struct.pack('>H', status), marked.get(status, 'every low byte'))
 
 
-# Receive responses: kind r, input old number and payload; area << 32 | number << 16 | slot counter, or refusal << 48 | value
+# Receive responses: letter r, input old number and payload; area << 32 | number << 16 | slot counter, or refusal << 48 | value
 
 def interpreted(lo, old):
     hi = old >> 8
@@ -175,7 +175,7 @@ def response_rows():
     yield response_row(0x1234, b'\x00', 'one byte')
 
 
-# Packet numbers: kind n, input low byte and old number
+# Packet numbers: letter n, input low byte and old number
 
 def number_rows():
     marked = [(0x05, 0x1205), (0x04, 0x1205), (0x00, 0xffff)]
@@ -186,7 +186,7 @@ def number_rows():
             yield row('n', interpreted(lo, old), bytes([lo]) + struct.pack('>H', old), 'below, at and above the old low byte')
 
 
-# Slot counters: kind c, input the present counter and the past one; slots since, or 10000 and the bad slot number. Kind k: input a counter; epoch << 16 | number, and 40000 more if bad
+# Slot counters: letter c, input the present counter and the past one; slots since, or 10000 and the bad slot number. Letter k: input a counter; epoch << 16 | number, and 40000 more if bad
 
 def since(now, past):
     for c in (now, past):

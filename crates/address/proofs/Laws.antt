@@ -44,10 +44,6 @@ gatewayOf-addressOf n h = go (ltb n 0x8000) refl
     go true e = let g : n < 0x8000 = ltb-true n 0x8000 e in omega arith
     go false e = omega arith
 
-pub numberOf-lt : (a : Address) → gatewayOf a ≤ idLimit → numberOf a < 2 ^ 16
-numberOf-lt (From g) h = omega arith
-numberOf-lt (To g) h = omega arith
-
 -- the direction bit tells From and To apart
 pub ltb-numberOf : (a : Address) → gatewayOf a ≤ idLimit → ltb (numberOf a) 0x8000 ≡ cond (isFrom a) false true
 ltb-numberOf (From g) h = le-ltb (0x8000 + g .0) 0x8000 (omega arith)

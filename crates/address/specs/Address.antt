@@ -20,11 +20,11 @@ abbrev pub isFrom : Address → Bool
 isFrom (From g) = true
 isFrom (To g) = false
 
--- the 16 bits of an address
+-- 01, "On the wire": address (2, big-endian; bit 0x8000 set means From): its 16 bits
 abbrev pub numberOf : Address → ℕ
 numberOf (From g) = 0x8000 + g .0
 numberOf (To g) = g .0
 
--- the address that 16 bits say
+-- 01, "What comes over": direction bit, 15-bit ID: the address that 16 bits say
 unfoldable pub addressOf : ℕ → Address
 addressOf n = cond (ltb n 0x8000) (To (record { 0 = n })) (From (record { 0 = n - 0x8000 }))

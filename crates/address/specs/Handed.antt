@@ -14,25 +14,29 @@ use Rattle.address.specs.declared.Numbered.the-variants.{Number, Invalid
 use Rattle.address.specs.declared.Spelled.{Spelled}
 use Rattle.address.specs.declared.Spelled.the-variants.{Bytes, Invalid as InvalidBytes}
 
+-- 01, "Numbers handed back", 13: gateway ID above 7fff, made or given: here one that is made
 abbrev pub handedID : Made → Handed ℕ
 handedID (ID g) = value (g .0)
 handedID InvalidID = refused 13
 
+-- 13 again: here the ID of an address whose 16 bits are asked for
 abbrev pub handedNumber : Numbered → Handed ℕ
 handedNumber (Number n) = value n
 handedNumber InvalidNumber = refused 13
 
+-- 13 again: here the ID of an address whose two bytes are asked for
 abbrev pub handedBytes : Spelled → Handed (List ℕ)
 handedBytes (Bytes hi lo) = value (hi ∷ lo ∷ [])
 handedBytes InvalidBytes = refused 13
 
--- 01, "Numbers handed back", 13: gateway ID above 7fff, made or given
+-- 01, "Numbers handed back", 13: gateway ID above 7fff, made: else the ID itself
 unfoldable pub idHanded : ℕ → Handed ℕ
 idHanded n = cond (ltb idLimit n) (refused 13) (value n)
 
+-- 01, "Numbers handed back", 13: gateway ID above 7fff, given: else the 16 bits of its address
 unfoldable pub numberHanded : Address → Handed ℕ
 numberHanded a = cond (ltb idLimit (gatewayOf a)) (refused 13) (value (numberOf a))
 
--- 01, "On the wire": address (2, big-endian)
+-- the same for the two bytes. 01, "On the wire": address (2, big-endian)
 unfoldable pub bytesHanded : Address → Handed (List ℕ)
 bytesHanded a = cond (ltb idLimit (gatewayOf a)) (refused 13) (value (be16 (numberOf a)))

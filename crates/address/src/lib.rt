@@ -7,7 +7,8 @@ ghost use Rattle.address.specs.Handed.{handedID, handedNumber, handedByt
 
 const DIRECTION_BIT: u16 = 0x8000;
 
-const ID_LIMIT: u16 = 0x7fff;
+// The largest gateway ID.
+pub const ID_LIMIT: u16 = 0x7fff;
 
 // A 15-bit gateway ID.
 pub struct GatewayID(pub u16);

@@ -7,6 +7,7 @@ use lib.Dec.{ltb}
 use Rattle.laws.specs.Wrap.{raised}
 use Rattle.network.specs.Split.{tallyOf}
 
+-- transport/receiver.rs, `Counters`: its 33 fields in their order; each has here the number of its place in the array
 abbrev pub unhandled-frame-type : ℕ
 unhandled-frame-type = 0
 
@@ -114,6 +115,7 @@ counterCount = 33
 abbrev pub add : ℕ → ℕ → List ℕ → List ℕ
 add n i counters = set counters i ((getD counters i 0 + n) % 2 ^ 64)
 
+-- one more of a counter, by the same rule
 abbrev pub raise : ℕ → List ℕ → List ℕ
 raise i counters = set counters i (raised (getD counters i 0))
 
@@ -121,6 +123,7 @@ raise i counters = set counters i (raised (getD counters i 0))
 abbrev pub addAt : ℕ → ℕ → List ℕ → List ℕ
 addAt n i counters = cond (ltb i counterCount) (add n i counters) counters
 
+-- and one more of it, by the same rule
 abbrev pub raiseAt : ℕ → List ℕ → List ℕ
 raiseAt i counters = cond (ltb i counterCount) (raise i counters) counters
 

@@ -1,3 +1,4 @@
+pub mod Barred
 pub mod Counters
-pub mod Types
 pub mod Stored
+pub mod Types

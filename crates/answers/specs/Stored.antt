@@ -4,6 +4,10 @@ use mathlib.Core.Bool.{Bool}
 use mathlib.Core.List.{List}
 use lib.Dec.{eqb}
 
+-- 01, "Transport": what is stored "for the gateway": the number of its key
+abbrev pub gatewayKey : ℕ → ℕ
+gatewayKey gateway = gateway
+
 -- 01, "Transport": a command request is kept under gateway and sequence: both as one number
 abbrev pub commandKey : ℕ → ℕ → ℕ
 commandKey gateway sequence = gateway * 256 + sequence

@@ -5,6 +5,7 @@ use mathlib.Core.List.{List, [], _∷_}
 use lib.Dec.{eqb}
 use Rattle.answers.specs.Counters
 
+-- link.rs, `Type`: the eighteen constants and their numbers
 abbrev pub receive-request : ℕ
 receive-request = 0x0148
 
@@ -87,21 +88,23 @@ named =
     ∷ enumeration-end-response
     ∷ []
 
+-- 01, "Numbers handed back", 31: a type that is none of these
 abbrev pub isNamed : ℕ → Bool
 isNamed k = isOneOf named k
 
 -- a type and a counter
 pub record Row : Type 0 where
-  pub kind : ℕ
+  pub frameType : ℕ
   pub counter : ℕ
 
+-- such a row, by its two parts
 abbrev pub row : ℕ → ℕ → Row
-row k c = record { kind = k; counter = c }
+row k c = record { frameType = k; counter = c }
 
 -- the counter that stands beside a type, or another
 abbrev pub beside : List Row → ℕ → ℕ → ℕ
 beside [] k other = other
-beside (r ∷ rs) k other = cond (eqb k (r .kind)) (r .counter) (beside rs k other)
+beside (r ∷ rs) k other = cond (eqb k (r .frameType)) (r .counter) (beside rs k other)
 
 -- 01, "Transport": the other counters follow the source, and count without looking at address or payload where it does
 abbrev pub countedOnly : List Row
@@ -119,7 +122,7 @@ countedOnly =
 
 -- the counter of a type that is only counted; any other type is unhandled
 unfoldable pub counterOf : ℕ → ℕ
-counterOf kind = beside countedOnly kind Counters.unhandled-frame-type
+counterOf frameType = beside countedOnly frameType Counters.unhandled-frame-type
 
 -- the source's counter for an invalid frame of a type
 abbrev pub invalids : List Row
@@ -135,5 +138,6 @@ invalids =
     ∷ row identify-response Counters.invalid-identify-responses
     ∷ []
 
+-- 01, "Numbers handed back": refusals 20 to 24 and 28 to 31 raise the source's counter for that case: the one of a type's invalid frames
 abbrev pub invalidOf : ℕ → ℕ
-invalidOf kind = beside invalids kind Counters.unhandled-frame-type
+invalidOf frameType = beside invalids frameType Counters.unhandled-frame-type

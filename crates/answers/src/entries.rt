@@ -2,7 +2,9 @@
 ghost use mathlib.Core.Path.{_≡_};
 ghost use Prim.Native.Nat.{suc};
 ghost use Rattle.answers.specs.Counters.{raiseAt, addAt};
-ghost use Rattle.answers.specs.Stored.{commandKey};
+ghost use Rattle.answers.specs.Stored.{gatewayKey, commandKey};
+use address::GatewayID;
+use transport::CommandSequenceNumber;
 
 // One counter raised by `n`; past the last there is none.
 pub fn add(counters: &mut [u64; 33], i: usize, n: u64)
@@ -21,15 +23,18 @@ pub fn raise(counters: &mut [u64; 33], i: usize)
 }
 
 // The key of a gateway's place.
-pub fn gateway_key(gateway: u16) -> u32
-    ensures { λ r. ⌜ r ≡ suc gateway ⌝ }
+pub fn gateway_key(gateway: GatewayID) -> u32
+    ensures { λ r. ⌜ r ≡ suc (gatewayKey (gateway .0)) ⌝ }
 {
-    (gateway as u32) + 1
+    let number = gateway.0;
+    (number as u32) + 1
 }
 
 // The key of a command's place.
-pub fn command_key(gateway: u16, sequence: u8) -> u32
-    ensures { λ r. ⌜ r ≡ suc (commandKey gateway sequence) ⌝ }
+pub fn command_key(gateway: GatewayID, sequence: CommandSequenceNumber) -> u32
+    ensures { λ r. ⌜ r ≡ suc (commandKey (gateway .0) (sequence .0)) ⌝ }
 {
-    (gateway as u32) * 256 + (sequence as u32) + 1
+    let number = gateway.0;
+    let low = sequence.0;
+    (number as u32) * 256 + (low as u32) + 1
 }

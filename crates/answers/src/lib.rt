@@ -1,6 +1,7 @@
 // What a step of the transport receiver answers, the counters that it raises (`counters`, `entries`) and the keys of its tables (`entries`).
 // What each frame type does is in the crates above: receive_frames, command_frames, plain_frames.
 use address::GatewayID;
+use network::PacketType;
 use slot_counter::SlotCounter;
 use transport::PacketNumber;
 
@@ -65,8 +66,8 @@ pub enum Answer {
     // The response's payload stands in the payload from 5 on.
     CommandExecuted {
         place: usize,
-        request: u8,
+        request: PacketType,
         length: u8,
-        response: u8,
+        response: PacketType,
     },
 }

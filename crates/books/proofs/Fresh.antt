@@ -6,8 +6,8 @@ use mathlib.Core.List.{List, [], _∷_, _++_, append-nil}
 use native.Mathlib.Omega.{arith}
 use lib.ListN.{length, length-replicate}
 use borrow.Author.Tests.{le-ltb}
-use Rattle.reading.specs.Kinds.{Kind}
-use Rattle.reading.specs.Kinds as k
+use Rattle.reading.specs.Counters.{Counter}
+use Rattle.reading.specs.Counters as k
 use Rattle.reading.specs.Grammar.{Piece, Reading, TheReading}
 use Rattle.reading.specs.Counts.{left, leftFrom, count, countSince, soundBodies, soundFrames}
 use Rattle.reading.proofs.Reader.{pieces, piecesOf}
@@ -15,14 +15,15 @@ use Rattle.reading.proofs.Once.{the-reading}
 use Rattle.link_receive.specs.declared.Receiver.{Receiver}
 use Rattle.link_receive.specs.Tally.{tallyOf, zeros}
 use Rattle.link_receive.specs.declared.Answer.the-variants.{Refused}
-use Rattle.link_receive.specs.Step.{limit, freshOf, resetOf, stepOf}
+use Rattle.link_receive.specs.Step.{room, rulesOf, freshOf, resetOf, stepOf}
+use Rattle.link_receive.proofs.Rules.{rulesOf-made}
 use Rattle.link_feed.specs.Feed.{feedOf}
 use Rattle.link_feed.specs.Drain.{drainOf}
 use Rattle.link_feed.proofs.Drains.{feedOf-goes}
 use Rattle.books.specs.Stands.{restAt, Since, After}
 use Rattle.books.proofs.Run.{since-more}
 
-tallyOf-zeros : (j : Kind) → tallyOf j zeros ≡ 0
+tallyOf-zeros : (j : Counter) → tallyOf j zeros ≡ 0
 tallyOf-zeros k.openings = refl
 tallyOf-zeros k.frames = refl
 tallyOf-zeros k.runts = refl
@@ -38,12 +39,12 @@ module _ (check : List ℕ → ℕ) where
   unfolding pieces leftFrom
   fresh-after =
       record {
-        before = piecesOf limit [];
-        pieces = piecesOf limit [];
-        reading-before = the-reading limit [];
-        reading = the-reading limit [];
+        before = piecesOf (rulesOf freshOf) [];
+        pieces = piecesOf (rulesOf freshOf) [];
+        reading-before = the-reading (rulesOf freshOf) [];
+        reading = the-reading (rulesOf freshOf) [];
         within = omega arith;
-        sized = length-replicate {A = ℕ} limit 0;
+        sized = length-replicate {A = ℕ} room 0;
         stands = refl;
         tallied = λ j. tallyOf-zeros j ∙ omega arith;
       }
@@ -56,13 +57,14 @@ module _ (check : List ℕ → ℕ) where
   pub reset-since : (g h : List ℕ) (r : Receiver) → Since check g h r → Since check (g ++ h) [] (resetOf r .next)
   unfolding resetOf
   reset-since g h r a =
-      rw (le-ltb limit (r .len) (a .within))
+      let same = rulesOf-made r (r .state) (r .body) (r .len) zeros in
+      rw (le-ltb (rulesOf r .limit) (r .len) (a .within))
       (record {
         before = a .pieces;
         pieces = a .pieces;
-        reading-before = a .reading;
-        reading = rw append-nil (a .reading);
-        within = a .within;
+        reading-before = rw same (a .reading);
+        reading = rw (same, append-nil) (a .reading);
+        within = rw same (a .within);
         sized = a .sized;
         stands = a .stands;
         tallied = λ j. tallyOf-zeros j ∙ omega arith;

@@ -5,13 +5,16 @@ use Prim.Native.Nat.{ℕ, _≤_, _<_, _^_}
 use mathlib.Core.List.{List, [], _++_}
 use lib.ListN.{length, take}
 use borrow.Author.Tests.{le-ltb}
+use Rattle.reading.specs.Grammar.{present}
 use Rattle.reading.specs.Counts.{soundFrames}
 use Rattle.link_receive.specs.declared.Receiver.{Receiver}
 use Rattle.link_receive.specs.declared.Stepped.{Stepped}
 use Rattle.link_feed.specs.declared.Fed.{Fed}
-use Rattle.link_receive.specs.Step.{limit, freshOf}
+use Rattle.link_receive.specs.Step.{rulesOf, Within, freshOf}
+use Rattle.link_receive.proofs.Rules.{rulesOf-fresh}
 use Rattle.link_feed.specs.Feed.{feedOf}
 use Rattle.link_feed.specs.Drain.{drainOf, framesOf, framesFed, extendOf}
+use Rattle.link_feed.proofs.Drains.{rulesOf-drain, rulesOf-extend}
 use Rattle.books.specs.declared.Ledger.{Ledger}
 use Rattle.books.specs.declared.Telling.{Telling}
 use Rattle.books.specs.Stands.{Since, After}
@@ -23,9 +26,9 @@ use Rattle.books.proofs.Prefix.{feedOf-drained, feedOf-handed}
 use Rattle.books.proofs.Ledgers.{ledger-told}
 
 module _ (check : List ℕ → ℕ) where
-  extend-drained : (r : Receiver) (s : List ℕ) → r .len ≤ limit → extendOf check r s .next ≡ drainOf check r s
+  extend-drained : (r : Receiver) (s : List ℕ) → Within r → extendOf check r s .next ≡ drainOf check r s
   unfolding extendOf
-  extend-drained r s h = rw (le-ltb limit (r .len) h)
+  extend-drained r s h = rw (le-ltb (rulesOf r .limit) (r .len) h)
 
   pub absorbed : (r : Receiver) (s : List ℕ) (x : Stepped) → x ≡ extendOf check r s → Absorbed check r s x
   absorbed r s x e =
@@ -44,9 +47,10 @@ module _ (check : List ℕ → ℕ) where
     on : GaveOn check g h s r f a
     on =
         let b : Since check g (h ++ take (f .taken) s) (f .next) = rw next-is (since-more check g h r a (take (f .taken) s)) in
+        let same : rulesOf (f .next) ≡ rulesOf r = rw next-is (rulesOf-drain check (take (f .taken) s) r) in
         record {
           after = b;
-          adds = frames-more check g h r a (take (f .taken) s) (b .pieces) (b .reading .is) ∙ ap (λ l. soundFrames check (a .pieces) ++ l) (sym handed-is);
+          adds = frames-more check g h r a (take (f .taken) s) (b .pieces) (rw same at (b .reading .is)) ∙ ap (λ l. soundFrames check (a .pieces) ++ l) (sym handed-is);
         }
 
   pub gave : (r : Receiver) (s : List ℕ) (f : Fed) → f ≡ feedOf check r s → Gave check r s f
@@ -55,6 +59,8 @@ module _ (check : List ℕ → ℕ) where
   pub told-as : (r : Receiver) (x : Telling) → x ≡ toldOf r → ToldAs check r x
   told-as r x e = record { exactly = e; ledgered = λ h a few. ledger-told check h r a few }
 
-  -- a whole slice, from fresh
-  pub whole-ledgered : (s : List ℕ) (x : Stepped) (l : Ledger) → length s < 2 ^ 64 → Absorbed check freshOf s x → l ≡ ledgerAt (x .next) → Ledgered check s l
-  whole-ledgered s x l few a e = rw e (ledger-told check s (x .next) (a .since [] [] (fresh-after check)) few)
+  -- a whole slice, from fresh: by 01's rules
+  pub whole-ledgered : (s : List ℕ) (x : Stepped) (l : Ledger) → length s < 2 ^ 64 → Absorbed check freshOf s x → l ≡ ledgerAt (x .next) → Ledgered check present s l
+  whole-ledgered s x l few a e =
+      let same : rulesOf (x .next) ≡ present = rw (a .exactly) (rulesOf-extend check freshOf s ∙ rulesOf-fresh) in
+      rw (e, ← same) (ledger-told check s (x .next) (a .since [] [] (fresh-after check)) few)

@@ -14,52 +14,55 @@ use Rattle.escaping.specs.Escapes.{Meaning, datum, opener, closer, neither, mea
 use Rattle.laws.specs.Bytes.{be16At}
 use Rattle.address.specs.Address.{addressOf}
 use Rattle.link.specs.Wire.{frameOf}
-use Rattle.reading.specs.Kinds.{Kind}
-use Rattle.reading.specs.Kinds as k
+use Rattle.reading.specs.Counters.{Counter}
+use Rattle.reading.specs.Counters as k
+use Rattle.reading.specs.Grammar.{Rules}
 use Rattle.reading.specs.Counts.{Verdict, runt, checksum, sound, verdict, Rest, inside, inside-7e}
 use Rattle.reading.proofs.Machine.{Event, counted, closes, Beat, beat}
-use Rattle.reading.proofs.Books.{kindOfEvent, bodies}
+use Rattle.reading.proofs.Books.{counterOfEvent, bodies}
 use Rattle.link_receive.specs.declared.State.{State}
 use Rattle.link_receive.specs.declared.State.the-variants.{Idle, Noise, StartOfFrame, Frame, FrameEscape, Giant, GiantEscape}
 use Rattle.link_receive.specs.declared.Receiver.{Receiver}
 use Rattle.link_receive.specs.declared.Tallies.{Tallies}
 use Rattle.link_receive.specs.declared.Stepped.{Stepped}
 use Rattle.link_receive.specs.Tally.{raise}
-use Rattle.link_receive.specs.Step.{limit, turnOf, parsedOf, closedOf, movedOf, stepOf}
+use Rattle.link_receive.specs.Step.{room, madeOf, rulesOf, Within, turnOf, parsedOf, closedOf, movedOf, stepOf}
 use Rattle.link_receive.specs.Frames.{handedOut}
+use Rattle.link_receive.proofs.Rules.{limit-room}
 use Rattle.link_receive.proofs.Frames.{handedOut-sound}
 use Rattle.books.specs.Stands.{restOf, restAt}
 
 -- the tallies after some events
 unfoldable pub raisedBy : List Event → Tallies → Tallies
 raisedBy [] t = t
-raisedBy (e ∷ es) t = raisedBy es (raise (kindOfEvent e) t)
+raisedBy (e ∷ es) t = raisedBy es (raise (counterOfEvent e) t)
 
-pub record Linked (x : Stepped) (y : Beat) (t : Tallies) : Type 0 where
-  pub within : x .next .len ≤ limit
-  pub sized : length (x .next .body) ≡ limit
+pub record Linked (rules : Rules) (x : Stepped) (y : Beat) (t : Tallies) : Type 0 where
+  pub within : x .next .len ≤ rules .limit
+  pub sized : length (x .next .body) ≡ room
   pub stands : restAt (x .next) ≡ y .to
   pub raises : x .next .tallies ≡ raisedBy (y .events) t
   pub hands : handedOut (x .answer) (x .next .body) ≡ map frameOf (bodies (y .events))
 
-linked : {x : Stepped} {y : Beat} {t : Tallies} → x .next .len ≤ limit → length (x .next .body) ≡ limit → restAt (x .next) ≡ y .to → x .next .tallies ≡ raisedBy (y .events) t → handedOut (x .answer) (x .next .body) ≡ map frameOf (bodies (y .events)) → Linked x y t
+linked : {rules : Rules} {x : Stepped} {y : Beat} {t : Tallies} → x .next .len ≤ rules .limit → length (x .next .body) ≡ room → restAt (x .next) ≡ y .to → x .next .tallies ≡ raisedBy (y .events) t → handedOut (x .answer) (x .next .body) ≡ map frameOf (bodies (y .events)) → Linked rules x y t
 linked a b c d e = record { within = a; sized = b; stands = c; raises = d; hands = e }
 
-module _ (check : List ℕ → ℕ) (body : List ℕ) (len : ℕ) (t : Tallies) (b : ℕ) (h : len ≤ limit) (l : length body ≡ limit) where
+-- the parts of a receiver o, and rules whose limit the array has room for
+module _ (check : List ℕ → ℕ) (rules : Rules) (fits : rules .limit ≤ room) (o : Receiver) (body : List ℕ) (len : ℕ) (t : Tallies) (b : ℕ) (h : len ≤ rules .limit) (l : length body ≡ room) where
   abbrev at : State → Receiver
-  at s = record { state = s; body = body; len = len; tallies = t }
+  at s = madeOf o s body len t
 
   abbrev Links : State → Type 0
-  Links s = Linked (movedOf check (at s) (turnOf s len b)) (beat limit check (restOf s (take len body)) b) t
+  Links s = Linked rules (movedOf check (at s) (turnOf rules s len b)) (beat rules check (restOf s (take len body)) b) t
 
   length-units : length (take len body) ≡ len
   length-units = omega (arith, length-take len body)
 
-  units-more : (c : ℕ) → ltb len limit ≡ true → take (len + 1) (set body len c) ≡ take len body ++ (c ∷ [])
-  units-more c f = rw (add-one, take-suc-set body len c (omega (arith, ltb-true len limit f)))
+  units-more : (c : ℕ) → ltb len (rules .limit) ≡ true → take (len + 1) (set body len c) ≡ take len body ++ (c ∷ [])
+  units-more c f = rw (add-one, take-suc-set body len c (omega (arith, ltb-true len (rules .limit) f)))
 
-  one-more : ltb len limit ≡ true → len + 1 ≤ limit
-  one-more f = omega (arith, ltb-true len limit f)
+  one-more : ltb len (rules .limit) ≡ true → len + 1 ≤ rules .limit
+  one-more f = omega (arith, ltb-true len (rules .limit) f)
 
   link-idle : (x y z : Bool) → eqb b 0x7e ≡ x → eqb b 0x00 ≡ y → eqb b 0xff ≡ z → Links Idle
   unfolding turnOf raisedBy bodies
@@ -82,19 +85,19 @@ module _ (check : List ℕ → ℕ) (body : List ℕ) (len : ℕ) (t : Tallies) 
   link-start closer e = rw e (linked (omega arith) l refl refl refl)
   link-start neither e = rw e (linked (omega arith) l refl refl refl)
 
-  link-frame : (x y : Bool) → eqb b 0x7e ≡ x → ltb len limit ≡ y → Links Frame
+  link-frame : (x y : Bool) → eqb b 0x7e ≡ x → ltb len (rules .limit) ≡ y → Links Frame
   unfolding turnOf raisedBy bodies
   link-frame true y e f = rw e (linked h l refl refl refl)
   link-frame false true e f = rw (e, length-units, f) (linked (one-more f) (simp length-set l) (ap inside (units-more b f)) refl refl)
   link-frame false false e f = rw (e, length-units, f) (linked (omega arith) l refl refl refl)
 
-  link-closed : (v : Verdict) → verdict check (take len body) ≡ v → Linked (closedOf (at FrameEscape) (parsedOf check (take len body))) (record { events = closes (verdict check (take len body)) (take len body) ∷ []; to = restOf Idle [] }) t
+  link-closed : (v : Verdict) → verdict check (take len body) ≡ v → Linked rules (closedOf (at FrameEscape) (parsedOf check (take len body))) (record { events = closes (verdict check (take len body)) (take len body) ∷ []; to = restOf Idle [] }) t
   unfolding raisedBy bodies parsedOf
   link-closed runt e = rw e (linked (omega arith) l refl refl refl)
   link-closed checksum e = rw e (linked (omega arith) l refl refl refl)
   link-closed sound e = rw e (linked (omega arith) l refl refl (handedOut-sound check body len (addressOf (be16At (take len body) 0)) (record { 0 = be16At (take len body) 2 }) (omega arith) (rw e)))
 
-  link-escape : (m : Meaning) (y : Bool) → meaning b ≡ m → ltb len limit ≡ y → Links FrameEscape
+  link-escape : (m : Meaning) (y : Bool) → meaning b ≡ m → ltb len (rules .limit) ≡ y → Links FrameEscape
   unfolding turnOf raisedBy bodies
   link-escape datum true e f = rw (e, length-units, f) (linked (one-more f) (simp length-set l) (ap inside (units-more (unescapedOf b) f)) refl refl)
   link-escape datum false e f = rw (e, length-units, f) (linked (omega arith) l refl refl refl)
@@ -118,11 +121,11 @@ module _ (check : List ℕ → ℕ) (body : List ℕ) (len : ℕ) (t : Tallies) 
   links Idle = link-idle (eqb b 0x7e) (eqb b 0x00) (eqb b 0xff) refl refl refl
   links Noise = link-noise (eqb b 0x7e) (eqb b 0x00) (eqb b 0xff) refl refl refl
   links StartOfFrame = link-start (meaning b) refl
-  links Frame = link-frame (eqb b 0x7e) (ltb len limit) refl refl
-  links FrameEscape = link-escape (meaning b) (ltb len limit) refl refl
+  links Frame = link-frame (eqb b 0x7e) (ltb len (rules .limit)) refl refl
+  links FrameEscape = link-escape (meaning b) (ltb len (rules .limit)) refl refl
   links Giant = link-giant (eqb b 0x7e) refl
   links GiantEscape = link-giant-escape (meaning b) refl
 
-pub link : (check : List ℕ → ℕ) (r : Receiver) (b : ℕ) → r .len ≤ limit → length (r .body) ≡ limit → Linked (stepOf check r b) (beat limit check (restAt r) b) (r .tallies)
+pub link : (check : List ℕ → ℕ) (r : Receiver) (b : ℕ) → Within r → length (r .body) ≡ room → Linked (rulesOf r) (stepOf check r b) (beat (rulesOf r) check (restAt r) b) (r .tallies)
 unfolding stepOf
-link check r b h l = rw (le-ltb limit (r .len) h) (links check (r .body) (r .len) (r .tallies) b h l (r .state))
+link check r b h l = rw (le-ltb (rulesOf r .limit) (r .len) h) (links check (rulesOf r) (limit-room r) r (r .body) (r .len) (r .tallies) b h l (r .state))

@@ -11,7 +11,7 @@ use Rattle.link_receive.specs.declared.Answer.{Answer}
 use Rattle.link_receive.specs.declared.Answer.the-variants as answer
 use Rattle.link_receive.specs.declared.Receiver.{Receiver}
 use Rattle.link_feed.specs.declared.Fed.{Fed}
-use Rattle.link_receive.specs.Step.{limit, stepOf}
+use Rattle.link_receive.specs.Step.{Within, stepOf}
 use Rattle.link_receive.specs.Frames.{handedOut}
 use Rattle.link_feed.specs.Feed.{stopped, fedOn, feedFrom, feedOf}
 use Rattle.link_feed.specs.Drain.{drainOf, framesOf, framesFed}
@@ -35,7 +35,7 @@ module _ (check : List ℕ → ℕ) where
       record { more = 1; taken = refl; drained = refl; handed = rw e (sym (append-nil (handedOut (answer.Frame address t len) (stepOf check r b .next .body)))) }
   from-step r b bs n answer.Refused f e refuses i = absurd (refuses refl)
 
-  feed-from : (s : List ℕ) (r : Receiver) (n : ℕ) → r .len ≤ limit → From r s n (feedFrom check r s n)
+  feed-from : (s : List ℕ) (r : Receiver) (n : ℕ) → Within r → From r s n (feedFrom check r s n)
   unfolding feedFrom drainOf framesOf
   feed-from [] r n h = record { more = 0; taken = omega arith; drained = refl; handed = refl }
   feed-from (b ∷ bs) r n h =
@@ -43,7 +43,7 @@ module _ (check : List ℕ → ℕ) where
       from-step r b bs n (stepOf check r b .answer) (feedFrom check (stepOf check r b .next) bs (n + 1)) refl (t .answers)
       (feed-from bs (stepOf check r b .next) (n + 1) (t .within))
 
-  module _ (r : Receiver) (s : List ℕ) (h : r .len ≤ limit) where
+  module _ (r : Receiver) (s : List ℕ) (h : Within r) where
     abbrev fed : Fed
     fed = feedOf check r s
 

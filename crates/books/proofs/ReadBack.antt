@@ -10,7 +10,7 @@ use Rattle.escaping.specs.Escapes.{meaning}
 use Rattle.address.specs.Address.{idLimit, gatewayOf}
 use Rattle.link.specs.Wire.{Frame, frameOf, bodyOf, encodedOf}
 use Rattle.link.proofs.Body.{frameOf-bodyOf}
-use Rattle.reading.specs.Kinds as k
+use Rattle.reading.specs.Counters as k
 use Rattle.reading.specs.Grammar.{Line, idle, noisy}
 use Rattle.reading.specs.Counts.{Rest, out, out-7e, inside, inside-7e, over, over-7e, sound}
 use Rattle.reading.proofs.Machine.{Event, counted, closes, Beat, run, reach}
@@ -28,7 +28,7 @@ use Rattle.link_feed.specs.declared.Fed.{Fed}
 use Rattle.link_receive.specs.declared.Parsed.{Parsed}
 use Rattle.link_receive.specs.declared.Parsed.the-variants.{Sound, Dropped}
 use Rattle.link_receive.specs.declared.Move.the-variants.{Close}
-use Rattle.link_receive.specs.Step.{limit, turnOf, parsedOf, closedOf, stepOf}
+use Rattle.link_receive.specs.Step.{room, rulesOf, Within, turnOf, parsedOf, closedOf, stepOf}
 use Rattle.link_receive.specs.Frames.{handedOut}
 use Rattle.link_feed.specs.Feed.{stopped, fedOn, feedFrom, feedOf}
 use Rattle.link_feed.specs.Drain.{drainOf, framesOf, framesFed}
@@ -89,7 +89,7 @@ module _ (check : List ℕ → ℕ) where
       go (answer.Frame address t len) h = refl
       go answer.Refused h = absurd (h refl)
 
-  feed-quiet : (xs : List ℕ) (b : ℕ) (r : Receiver) (n : ℕ) → r .len ≤ limit → framesOf check r xs ≡ []
+  feed-quiet : (xs : List ℕ) (b : ℕ) (r : Receiver) (n : ℕ) → Within r → framesOf check r xs ≡ []
       → feedFrom check r (xs ++ (b ∷ [])) n ≡ feedFrom check (drainOf check r xs) (b ∷ []) (n + length xs)
   unfolding drainOf framesOf
   feed-quiet [] b r n h e = ap (feedFrom check r (b ∷ [])) (omega arith)
@@ -101,7 +101,7 @@ module _ (check : List ℕ → ℕ) where
       ∙ feed-quiet xs b q (n + 1) (t .within) (p .1)
       ∙ ap (feedFrom check (drainOf check q xs) (b ∷ [])) (omega arith)
 
-  module _ (f : Frame) (good : gatewayOf (f .address) ≤ idLimit) (fits : length (f .payload) + 6 ≤ limit) (r : Receiver) (h : r .len ≤ limit) (l : length (r .body) ≡ limit) (line : Line) (outside : restAt r ≡ out line) where
+  module _ (f : Frame) (good : gatewayOf (f .address) ≤ idLimit) (r : Receiver) (fits : length (f .payload) + 6 ≤ rulesOf r .limit) (h : Within r) (l : length (r .body) ≡ room) (line : Line) (outside : restAt r ≡ out line) where
     abbrev bytes : List ℕ
     bytes = encodedOf check f
 
@@ -117,11 +117,11 @@ module _ (check : List ℕ → ℕ) where
 
     quiet-so-far : framesOf check r almost ≡ []
     unfolding bodies
-    quiet-so-far = u .hands ∙ rw (outside, ap (λ (x : Beat). x .events) (goes-almostOf limit check f fits line))
+    quiet-so-far = u .hands ∙ rw (outside, ap (λ (x : Beat). x .events) (goes-almostOf (rulesOf r) check f fits line))
 
     escaping : q .state ≡ state.FrameEscape
     unfolding stateAt
-    escaping = state-of q (inside-7e (bodyOf check f)) (u .stands ∙ rw outside (ap (λ (x : Beat). x .to) (goes-almostOf limit check f fits line)))
+    escaping = state-of q (inside-7e (bodyOf check f)) (u .stands ∙ rw outside (ap (λ (x : Beat). x .to) (goes-almostOf (rulesOf r) check f fits line)))
 
     abbrev x : Stepped
     x = stepOf check q 0x08
@@ -160,8 +160,8 @@ module _ (check : List ℕ → ℕ) where
         ∙ framesOf-append check almost (0x08 ∷ []) r
         ∙ rw quiet-so-far (append-nil (handedOut (x .answer) (x .next .body)))
 
-    whole-run : run limit check bytes (restAt r) ≡ counted k.openings ∷ closes sound (bodyOf check f) ∷ []
-    whole-run = rw outside (ap (λ (y : Beat). y .events) (goes-encodedOf limit check f fits line))
+    whole-run : run (rulesOf r) check bytes (restAt r) ≡ counted k.openings ∷ closes sound (bodyOf check f) ∷ []
+    whole-run = rw outside (ap (λ (y : Beat). y .events) (goes-encodedOf (rulesOf r) check f fits line))
 
     one-frame : framesOf check r bytes ≡ f ∷ []
     unfolding bodies
@@ -176,7 +176,7 @@ module _ (check : List ℕ → ℕ) where
           all-taken = ap (λ (y : Fed). y .taken) fed-as ∙ sym length-bytes;
           fed = ap framesFed fed-as ∙ sym handed-last ∙ one-frame;
           next = ap (λ (y : Fed). y .next) fed-as ∙ sym drained;
-          stands = state-of (drainOf check r bytes) (out idle) (w .stands ∙ rw outside (ap (λ (y : Beat). y .to) (goes-encodedOf limit check f fits line)));
+          stands = state-of (drainOf check r bytes) (out idle) (w .stands ∙ rw outside (ap (λ (y : Beat). y .to) (goes-encodedOf (rulesOf r) check f fits line)));
           empty = ap (λ (y : Receiver). y .len) drained ∙ x-empty;
           tallies = w .raises ∙ rw whole-run;
         }

@@ -18,20 +18,20 @@ use Rattle.link.specs.Handed.{frameFor, writtenHanded, writtenBytes, numberedHa
 no-value : (m n : ℕ) → refused m ≡ value n → ⊥
 no-value m n e = let z : _≡_ {A = ℕ} 0 1 = cc in omega arith
 
-pub record Wrote (check : List ℕ → ℕ) (a : Address) (kind : ℕ) (payload out : List ℕ) (n : ℕ) : Type 0 where
+pub record Wrote (check : List ℕ → ℕ) (a : Address) (frameType : ℕ) (payload out : List ℕ) (n : ℕ) : Type 0 where
   pub good : gatewayOf a ≤ idLimit
   pub within : length payload ≤ payloadLimit
-  pub bytes : take n (encodeBytes check a kind payload out) ≡ encodedOf check (frameFor a kind payload)
+  pub bytes : take n (encodeBytes check a frameType payload out) ≡ encodedOf check (frameFor a frameType payload)
 
-module _ (check : List ℕ → ℕ) (a : Address) (kind : ℕ) (payload out : List ℕ) (n : ℕ) where
+module _ (check : List ℕ → ℕ) (a : Address) (frameType : ℕ) (payload out : List ℕ) (n : ℕ) where
   abbrev wire : List ℕ
-  wire = encodedOf check (frameFor a kind payload)
+  wire = encodedOf check (frameFor a frameType payload)
 
-  pub encode-wrote : encodeHanded check a kind payload (length out) ≡ value n → Wrote check a kind payload out n
+  pub encode-wrote : encodeHanded check a frameType payload (length out) ≡ value n → Wrote check a frameType payload out n
   unfolding encodeHanded encodeBytes numberedHanded numberedBytes
   encode-wrote e = go (ltb idLimit (gatewayOf a)) (ltb payloadLimit (length payload)) (ltb (length out) (length wire)) refl refl refl
     where
-      go : (x y z : Bool) → ltb idLimit (gatewayOf a) ≡ x → ltb payloadLimit (length payload) ≡ y → ltb (length out) (length wire) ≡ z → Wrote check a kind payload out n
+      go : (x y z : Bool) → ltb idLimit (gatewayOf a) ≡ x → ltb payloadLimit (length payload) ≡ y → ltb (length out) (length wire) ≡ z → Wrote check a frameType payload out n
       go true y z p q s = absurd (no-value 13 n (rw p at e))
       go false true z p q s = absurd (no-value 10 n (rw (p, q) at e))
       go false false true p q s = absurd (no-value 11 n (rw (p, q, s) at e))

@@ -8,7 +8,6 @@ use Rattle.reading.specs.Counts.{soundFrames}
 use Rattle.link_receive.specs.declared.Answer.the-variants.{Nothing}
 use Rattle.link_receive.specs.declared.Receiver.{Receiver}
 use Rattle.link_feed.specs.declared.Fed.{Fed}
-use Rattle.link_receive.specs.Step.{limit}
 use Rattle.link_feed.specs.Feed.{feedOf}
 use Rattle.link_feed.specs.Drain.{framesFed}
 use Rattle.books.specs.Stands.{Since}
@@ -20,6 +19,7 @@ module _ (check : List ℕ → ℕ) where
     pub after : Since check g (h ++ take (f .taken) s) (f .next)
     pub adds : soundFrames check (after .pieces) ≡ soundFrames check (a .pieces) ++ framesFed f
 
+  -- a feeding gives exactly what `feedOf` says, and goes on so from whatever bytes led to its receiver
   pub record Gave (r : Receiver) (s : List ℕ) (f : Fed) : Type 0 where
     pub exactly : f ≡ feedOf check r s
     pub on : (g h : List ℕ) (a : Since check g h r) → GaveOn g h s r f a

@@ -4,13 +4,12 @@ use Prim.Native.Nat.{ℕ, _+_, _<_, _^_}
 use mathlib.Core.Bool.{cond}
 use mathlib.Core.List.{List, [], _∷_, _++_}
 use lib.ListN.{length}
-use lib.Dec.{ltb}
-use Rattle.reading.specs.Grammar.{Piece, TheReading}
+use Rattle.reading.specs.Grammar.{Rules, Piece, TheReading}
 use Rattle.reading.specs.Counts.{ledgerOf}
 use Rattle.laws.specs.Handed.{Handed, refused, value, isRefusal}
 use Rattle.link_receive.specs.declared.Receiver.{Receiver}
 use Rattle.link_receive.specs.declared.Stepped.{Stepped}
-use Rattle.link_receive.specs.Step.{limit, openOf}
+use Rattle.link_receive.specs.Step.{rulesOf, tooLong, openOf}
 use Rattle.link_feed.specs.Drain.{extendOf}
 use Rattle.books.specs.declared.Ledger.{Ledger}
 use Rattle.books.specs.declared.Telling.{Telling}
@@ -46,21 +45,22 @@ handed Refused = refused 12
 abbrev pub refusedBy : ℕ → Ledger → Telling
 refusedBy n l = cond (isRefusal n (handed Refused)) Refused (So l)
 
+-- what a receiver is told as: 12 if its length is over the limit, else its ledger
 unfoldable pub toldOf : Receiver → Telling
-toldOf r = cond (ltb limit (r .len)) (refusedBy 12 (ledgerAt r)) (So (ledgerAt r))
+toldOf r = cond (tooLong r) (refusedBy 12 (ledgerAt r)) (So (ledgerAt r))
 
 module _ (check : List ℕ → ℕ) where
-  -- the ledger of some bytes: there is exactly one reading of them, each number is its count of pieces, and openings balance endings
-  pub record Ledgered (bs : List ℕ) (l : Ledger) : Type 0 where
+  -- the ledger of some bytes by some rules: there is exactly one reading of them, each number is its count of pieces, and openings balance endings
+  pub record Ledgered (rules : Rules) (bs : List ℕ) (l : Ledger) : Type 0 where
     pub pieces : List Piece
-    pub reading : TheReading limit bs pieces
+    pub reading : TheReading rules bs pieces
     pub counted : numbersOf l ≡ ledgerOf check pieces
     pub balanced : l .openings ≡ l .frames + l .runts + l .checksums + l .giants + l .escaped + l .broken + l .unfinished
 
-  -- told of a receiver that bytes lead to, fewer than 2^64: their ledger
+  -- told of a receiver that bytes lead to, fewer than 2^64: their ledger by its rules
   pub record ToldAs (r : Receiver) (x : Telling) : Type 0 where
     pub exactly : x ≡ toldOf r
-    pub ledgered : (h : List ℕ) → After check h r → length h < 2 ^ 64 → Ledgered h (ledgerAt r)
+    pub ledgered : (h : List ℕ) → After check h r → length h < 2 ^ 64 → Ledgered (rulesOf r) h (ledgerAt r)
 
   -- a block taken in: the receiver is what the bytes before it and the block lead to
   pub record Absorbed (r : Receiver) (s : List ℕ) (x : Stepped) : Type 0 where

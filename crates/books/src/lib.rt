@@ -2,6 +2,7 @@
 // `Receiver::new()`, takes each block in by `absorb` (or, frame by frame, by `give`), and asks `told` for the ledger.
 ghost use mathlib.Core.Path.{_≡_};
 ghost use Rattle.crc.specs.Crc.{crcOf};
+ghost use Rattle.reading.specs.Grammar.{present};
 ghost use Rattle.books.specs.Ledgers.{ledgerAt, Ledgered, Absorbed, ToldAs};
 ghost use Rattle.books.specs.Gives.{Gave};
 use link_feed::Fed;
@@ -74,7 +75,7 @@ pub fn give(r: Receiver, s: &[u8]) -> Fed
 
 // The ledger of a whole slice.
 pub fn ledger_of(s: &[u8]) -> Ledger
-    ensures { λ l. ⌜ Ledgered crcOf (now (s .entry)) l ⌝ }
+    ensures { λ l. ⌜ Ledgered crcOf present (now (s .entry)) l ⌝ }
 {
     let r = Receiver::new();
     let x = absorb(r, s);

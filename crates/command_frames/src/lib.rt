@@ -1,22 +1,21 @@
 // Command requests and responses: the tables of last sequences and of waiting commands.
 ghost use mathlib.Core.Path.{_≡_};
-ghost use Prim.Native.Nat.{_+_, _*_, _≤_, _<_};
+ghost use Prim.Native.Nat.{_*_, _≤_, _<_};
 ghost use lib.ListN.{length, drop};
 ghost use lib.Seq.{paste};
-ghost use Rattle.command_frames.specs.Command.{Seated, keepIn, Noted, isLastIn, noteIn, Requested, commandRequestIn, Answered, commandResponseIn};
+ghost use Rattle.link.specs.Wire.{payloadLimit};
+ghost use Rattle.command_frames.specs.Command.{Seated, keepIn, Noted, isLastIn, noteIn, Requested, askedIn, commandRequestIn, Answered, finishedIn, commandResponseIn};
+use address::GatewayID;
+use address::ID_LIMIT;
 use answers::Answer;
 use answers::counters::*;
 use answers::entries::command_key;
 use answers::entries::gateway_key;
 use answers::entries::raise;
-
-// `s` into `d` at `at`.
-fn copy_in(d: &mut [u8], at: usize, s: &[u8])
-    requires { ⌜ at + length (now s) ≤ length (now d) ⌝ }
-    ensures { λ _. ⌜ now (d .exit) ≡ paste (now (d .entry)) at (now (s .entry)) (length (now (s .entry))) ⌝ }
-{
-    bytes::copy(s, &mut d[at..]);
-}
+use link::PAYLOAD_LIMIT;
+use network::PacketType;
+use transport::CommandSequenceNumber;
+use words::copy_in;
 
 // A request's payload into place i of the pool; its length.
 fn keep_payload(cpayloads: &mut [u8; 15680], i: usize, payload: &[u8]) -> u8
@@ -47,12 +46,18 @@ fn keep(
 }
 
 // Whether place q holds the gateway's key and this sequence.
-fn is_last(skeys: &[u32; 32], sequences: &[u8; 32], q: usize, key: u32, sequence: u8) -> bool
+fn is_last(
+    skeys: &[u32; 32],
+    sequences: &[u8; 32],
+    q: usize,
+    key: u32,
+    sequence: CommandSequenceNumber,
+) -> bool
     requires { ⌜ q < 32 ⌝ }
-    ensures { λ r. ⌜ r ≡ isLastIn (now (skeys .entry)) (now (sequences .entry)) q key sequence ⌝ }
+    ensures { λ r. ⌜ r ≡ isLastIn (now (skeys .entry)) (now (sequences .entry)) q key (sequence .0) ⌝ }
 {
     if skeys[q] == key {
-        sequences[q] == sequence
+        sequences[q] == sequence.0
     } else {
         false
     }
@@ -65,22 +70,22 @@ fn note(
     counters: &mut [u64; 33],
     q: usize,
     key: u32,
-    sequence: u8,
+    sequence: CommandSequenceNumber,
 )
     requires { ⌜ q < 32 ⌝ }
-    ensures { λ _. ⌜ _≡_ {A = Noted} (record { skeys = now (skeys .exit); sequences = now (sequences .exit); counters = now (counters .exit) }) (noteIn (record { skeys = now (skeys .entry); sequences = now (sequences .entry); counters = now (counters .entry) }) q key sequence) ⌝ }
+    ensures { λ _. ⌜ _≡_ {A = Noted} (record { skeys = now (skeys .exit); sequences = now (sequences .exit); counters = now (counters .exit) }) (noteIn (record { skeys = now (skeys .entry); sequences = now (sequences .entry); counters = now (counters .entry) }) q key (sequence .0)) ⌝ }
 {
     if is_last(skeys, sequences, q, key, sequence) {
         raise(counters, RETRANSMITTED_COMMAND_REQUESTS);
         return;
     }
     skeys[q] = key;
-    sequences[q] = sequence;
+    sequences[q] = sequence.0;
     raise(counters, COMMAND_REQUESTS);
 }
 
-// A command request: kept under gateway and sequence, and its sequence noted as the gateway's last. Refused by 32, 20, 21, 26, 27, in this order.
-pub fn command_request(
+// A command request that 13 and 32 do not refuse. Refused by 20, 21, 26, 27, in this order.
+fn ask(
     skeys: &mut [u32; 32],
     sequences: &mut [u8; 32],
     ckeys: &mut [u32; 64],
@@ -89,14 +94,12 @@ pub fn command_request(
     cpayloads: &mut [u8; 15680],
     counters: &mut [u64; 33],
     from: bool,
-    gateway: u16,
+    gateway: GatewayID,
     payload: &[u8],
 ) -> Answer
-    ensures { λ r. ⌜ _≡_ {A = Requested} (record { answer = r; noted = record { skeys = now (skeys .exit); sequences = now (sequences .exit); counters = now (counters .exit) }; seated = record { ckeys = now (ckeys .exit); ctypes = now (ctypes .exit); clengths = now (clengths .exit); cpayloads = now (cpayloads .exit) } }) (commandRequestIn (record { skeys = now (skeys .entry); sequences = now (sequences .entry); counters = now (counters .entry) }) (record { ckeys = now (ckeys .entry); ctypes = now (ctypes .entry); clengths = now (clengths .entry); cpayloads = now (cpayloads .entry) }) from gateway (now (payload .entry))) ⌝ }
+    requires { ⌜ length (now payload) ≤ payloadLimit ⌝ }
+    ensures { λ r. ⌜ _≡_ {A = Requested} (record { answer = r; noted = record { skeys = now (skeys .exit); sequences = now (sequences .exit); counters = now (counters .exit) }; seated = record { ckeys = now (ckeys .exit); ctypes = now (ctypes .exit); clengths = now (clengths .exit); cpayloads = now (cpayloads .exit) } }) (askedIn (record { skeys = now (skeys .entry); sequences = now (sequences .entry); counters = now (counters .entry) }) (record { ckeys = now (ckeys .entry); ctypes = now (ctypes .entry); clengths = now (clengths .entry); cpayloads = now (cpayloads .entry) }) from (gateway .0) (now (payload .entry))) ⌝ }
 {
-    if 250 < payload.len() {
-        return Answer::PayloadTooLong;
-    }
     if from {
         raise(counters, INVALID_COMMAND_REQUESTS);
         return Answer::WrongDirection;
@@ -105,7 +108,7 @@ pub fn command_request(
         raise(counters, INVALID_COMMAND_REQUESTS);
         return Answer::WrongLength;
     }
-    let sequence = payload[4];
+    let sequence = CommandSequenceNumber(payload[4]);
     let gkey = gateway_key(gateway);
     let q = tables::seat(skeys, gkey);
     if q < 32 {
@@ -121,17 +124,52 @@ pub fn command_request(
     Answer::SequencesFull
 }
 
-// A command response: takes its request out. Refused by 20, 21, 30, in this order.
-pub fn command_response(
+// A command request: kept under gateway and sequence, and its sequence noted as the gateway's last. Refused by 13, 32, 20, 21, 26, 27, in this order.
+pub fn command_request(
+    skeys: &mut [u32; 32],
+    sequences: &mut [u8; 32],
+    ckeys: &mut [u32; 64],
+    ctypes: &mut [u8; 64],
+    clengths: &mut [u8; 64],
+    cpayloads: &mut [u8; 15680],
+    counters: &mut [u64; 33],
+    from: bool,
+    gateway: GatewayID,
+    payload: &[u8],
+) -> Answer
+    ensures { λ r. ⌜ _≡_ {A = Requested} (record { answer = r; noted = record { skeys = now (skeys .exit); sequences = now (sequences .exit); counters = now (counters .exit) }; seated = record { ckeys = now (ckeys .exit); ctypes = now (ctypes .exit); clengths = now (clengths .exit); cpayloads = now (cpayloads .exit) } }) (commandRequestIn (record { skeys = now (skeys .entry); sequences = now (sequences .entry); counters = now (counters .entry) }) (record { ckeys = now (ckeys .entry); ctypes = now (ctypes .entry); clengths = now (clengths .entry); cpayloads = now (cpayloads .entry) }) from (gateway .0) (now (payload .entry))) ⌝ }
+{
+    if ID_LIMIT < gateway.0 {
+        return Answer::InvalidGatewayID;
+    }
+    if PAYLOAD_LIMIT < payload.len() {
+        return Answer::PayloadTooLong;
+    }
+    ask(
+        skeys,
+        sequences,
+        ckeys,
+        ctypes,
+        clengths,
+        cpayloads,
+        counters,
+        from,
+        gateway,
+        payload,
+    )
+}
+
+// A command response that 13 and 32 do not refuse. Refused by 20, 21, 30, in this order.
+fn finish(
     ckeys: &mut [u32; 64],
     ctypes: &[u8; 64],
     clengths: &[u8; 64],
     counters: &mut [u64; 33],
     from: bool,
-    gateway: u16,
+    gateway: GatewayID,
     payload: &[u8],
 ) -> Answer
-    ensures { λ r. ⌜ _≡_ {A = Answered} (record { answer = r; ckeys = now (ckeys .exit); counters = now (counters .exit) }) (commandResponseIn (now (ckeys .entry)) (now (ctypes .entry)) (now (clengths .entry)) (now (counters .entry)) from gateway (now (payload .entry))) ⌝ }
+    ensures { λ r. ⌜ _≡_ {A = Answered} (record { answer = r; ckeys = now (ckeys .exit); counters = now (counters .exit) }) (finishedIn (now (ckeys .entry)) (now (ctypes .entry)) (now (clengths .entry)) (now (counters .entry)) from (gateway .0) (now (payload .entry))) ⌝ }
 {
     if !from {
         raise(counters, INVALID_COMMAND_RESPONSES);
@@ -141,18 +179,40 @@ pub fn command_response(
         raise(counters, INVALID_COMMAND_RESPONSES);
         return Answer::WrongLength;
     }
-    let key = command_key(gateway, payload[4]);
+    let sequence = CommandSequenceNumber(payload[4]);
+    let key = command_key(gateway, sequence);
     let i = tables::find(ckeys, key);
     if i < 64 {
         ckeys[i] = tables::FREE;
         raise(counters, COMMAND_RESPONSES);
         return Answer::CommandExecuted {
             place: i,
-            request: ctypes[i],
+            request: PacketType(ctypes[i]),
             length: clengths[i],
-            response: payload[3],
+            response: PacketType(payload[3]),
         };
     }
     raise(counters, RETRANSMITTED_COMMAND_RESPONSES);
     Answer::NoRequest
+}
+
+// A command response: takes its request out. Refused by 13, 32, 20, 21, 30, in this order.
+pub fn command_response(
+    ckeys: &mut [u32; 64],
+    ctypes: &[u8; 64],
+    clengths: &[u8; 64],
+    counters: &mut [u64; 33],
+    from: bool,
+    gateway: GatewayID,
+    payload: &[u8],
+) -> Answer
+    ensures { λ r. ⌜ _≡_ {A = Answered} (record { answer = r; ckeys = now (ckeys .exit); counters = now (counters .exit) }) (commandResponseIn (now (ckeys .entry)) (now (ctypes .entry)) (now (clengths .entry)) (now (counters .entry)) from (gateway .0) (now (payload .entry))) ⌝ }
+{
+    if ID_LIMIT < gateway.0 {
+        return Answer::InvalidGatewayID;
+    }
+    if PAYLOAD_LIMIT < payload.len() {
+        return Answer::PayloadTooLong;
+    }
+    finish(ckeys, ctypes, clengths, counters, from, gateway, payload)
 }

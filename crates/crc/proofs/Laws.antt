@@ -1,4 +1,4 @@
--- The table's rule at every entry, and a byte by the table is a byte bit by bit. Assumes nothing.
+-- A table's rule at every entry, and a byte by a table that follows it is a byte bit by bit, for any polynomial of 16 bits. Assumes nothing.
 use mathlib.Core.Path.{_≡_, refl, sym, ap, ap₂, _∙_}
 use mathlib.Core.Bool.{Bool}
 use mathlib.Core.List.{List, [], _∷_, _++_}
@@ -6,23 +6,23 @@ use Prim.Native.Nat.{ℕ, zero, suc, _+_, _*_, _/_, _%_, _^_, _≤_, _<_}
 use native.Mathlib.Nat.{mod-lt, mul-one, one-mul, zero-mul, mul-assoc, pow-suc}
 use native.Mathlib.Numerals.{add-one}
 use native.Mathlib.Omega.{arith}
-use lib.Dec.{eqb, eqb→eq, lit<}
+use lib.Dec.{T, eqb, eqb→eq, lit<}
 use lib.ListN.{length, getD, drop, drop-of-length-le}
 use lib.Seq.{drop-cons}
 use lib.Bits.{bitXor, xor-comm, xor-zero-r, xor-shr, xor-mod, xor-lt}
 use Rattle.laws.specs.Bytes.{Bytes, Check16}
 use Rattle.laws.proofs.Bits.{xor-assoc, xor-apart}
-use Rattle.laws.proofs.Table.{entry}
+use Rattle.laws.proofs.Table.{every, entry}
 use Rattle.crc.specs.Crc.{polynomial, start, crcBit, crcBits, crcByte, crcFrom, crcOf}
-use Rattle.crc.specs.Table.{table}
+use Rattle.crc.specs.Table.{Follows}
 
-follows : ℕ → ℕ → Bool
+abbrev pub follows : ℕ → ℕ → Bool
 follows k x = eqb x (crcBits 8 k)
 
--- each entry is what eight bits make of its place
-pub table-rule : (k : ℕ) → k < 256 → getD table k 0 ≡ crcBits 8 k
-unfolding table follows
-table-rule k h = eqb→eq (getD table k 0) (crcBits 8 k) (entry follows 0 table tt k h)
+-- a test that is computed once over all entries, carried to each: the proof of `crc_plain` cites this for `TABLE`
+pub table-rule : (entries : List ℕ) → T (eqb (length entries) 256) → T (every follows 0 entries) → Follows entries
+unfolding Follows
+table-rule entries n t k h = eqb→eq (getD entries k 0) (crcBits 8 k) (entry follows 0 entries t k (omega (arith, eqb→eq (length entries) 256 n, h)))
 
 twice-half : (y : ℕ) → y * 2 / 2 ≡ y
 twice-half y = omega arith
@@ -48,18 +48,18 @@ crcBits-above (suc n) x y =
 no-high-byte : (b : ℕ) → b < 256 → b / 256 ≡ 0
 no-high-byte b h = omega arith
 
--- the entry at the low byte, taken into the high one: `crc_byte` cites this
-pub crcByte-table : (c b : ℕ) → b < 256 → bitXor (c / 2 ^ 8) (getD table (bitXor c b % 256) 0) ≡ crcByte c b
-unfolding crcByte
-crcByte-table c b h =
+-- the entry at the low byte, taken into the high one, by any table that follows the rule: `crc_byte` cites this
+pub crcByte-table : (entries : List ℕ) → Follows entries → (c b : ℕ) → b < 256 → bitXor (c / 2 ^ 8) (getD entries (bitXor c b % 256) 0) ≡ crcByte c b
+unfolding crcByte Follows
+crcByte-table entries f c b h =
     let w = bitXor c b in
-    ap (λ (k : ℕ). bitXor (c / 256) k) (table-rule (w % 256) (mod-lt w (lit< tt)))
+    ap (λ (k : ℕ). bitXor (c / 256) k) (f (w % 256) (mod-lt w (lit< tt)))
     ∙ ap (λ (k : ℕ). bitXor k (crcBits 8 (w % 256))) (sym (xor-shr c b 8 ∙ ap (λ (k : ℕ). bitXor (c / 256) k) (no-high-byte b h) ∙ xor-zero-r (c / 256)))
     ∙ xor-comm (w / 256) (crcBits 8 (w % 256))
     ∙ sym (crcBits-above 8 (w % 256) (w / 256))
     ∙ ap (crcBits 8) (sym (xor-apart 8 w))
 
--- the check of what is left, one byte on and at the end: the loop of `crc` cites both
+-- the check of what is left, one byte on and at the end: the loop of `crc_by` cites both
 pub crcFrom-drop : (s : List ℕ) (i crc : ℕ) → i < length s → crcFrom crc (drop i s) ≡ crcFrom (crcByte crc (getD s i 0)) (drop (i + 1) s)
 crcFrom-drop s i crc h = rw (add-one, drop-cons s i 0 h)
 
@@ -93,6 +93,6 @@ pub crcFrom-lt : (xs : List ℕ) (c : ℕ) → c < 2 ^ 16 → Bytes xs → crcFr
 crcFrom-lt [] c h g = h
 crcFrom-lt (x ∷ xs) c h g = crcFrom-lt xs (crcByte c x) (crcByte-lt c x h (g 0)) (λ i. g (suc i))
 
--- the check is one of 16 bits: the read-back cites this when it puts the CRC in
+-- the check is one of the 16-bit checks that 01 speaks of
 pub crcOf-16 : Check16 crcOf
 crcOf-16 xs g = crcFrom-lt xs start (lit< tt) g

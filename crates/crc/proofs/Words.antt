@@ -72,10 +72,10 @@ leAt-lt b hb i k zero = zero-lt-suc 0
 leAt-lt b hb i k (suc n) = omega (arith, pow-byte n, hb (i + k), leAt-lt b hb i (suc k) n)
 
 -- only the place counts, however it is written
-pub leAt-place : (b : List ℕ) (i k j l n : ℕ) → i + k ≡ j + l → leAt b i k n ≡ leAt b j l n
-leAt-place b i k j l zero e = refl
-leAt-place b i k j l (suc n) e =
-    ap₂ (λ (m y : ℕ). getD b m 0 + 256 * y) e (leAt-place b i (suc k) j (suc l) n (add-suc i k ∙ ap suc e ∙ sym (add-suc j l)))
+pub leAt-start : (b : List ℕ) (i k j l n : ℕ) → i + k ≡ j + l → leAt b i k n ≡ leAt b j l n
+leAt-start b i k j l zero e = refl
+leAt-start b i k j l (suc n) e =
+    ap₂ (λ (m y : ℕ). getD b m 0 + 256 * y) e (leAt-start b i (suc k) j (suc l) n (add-suc i k ∙ ap suc e ∙ sym (add-suc j l)))
 
 -- the upper r of m + r bytes
 leAt-high : (b : List ℕ) → Bytes b → (i k m r : ℕ) → leAt b i k (m + r) / 2 ^ (m * 8) ≡ leAt b i (k + m) r
@@ -138,12 +138,12 @@ module _ (b : List ℕ) (hb : Bytes b) (d m c v w : ℕ) (e : d + m ≡ 4) (en :
   upper : ℕ
   upper = leAt b 0 4 d
 
-  upper-place : w / 2 ^ (m * 8) ≡ upper
+  upper-half : w / 2 ^ (m * 8) ≡ upper
   unfolding upper
-  upper-place =
+  upper-half =
       ap (λ (y : ℕ). y / 2 ^ (m * 8)) (ew ∙ ap (leAt b d 0) (sym e ∙ add-comm d m))
       ∙ leAt-high b hb d 0 m d
-      ∙ leAt-place b d (0 + m) 0 4 d (omega arith)
+      ∙ leAt-start b d (0 + m) 0 4 d (omega arith)
 
   upper-lt : upper < 2 ^ 32
   unfolding upper
@@ -152,7 +152,7 @@ module _ (b : List ℕ) (hb : Bytes b) (d m c v w : ℕ) (e : d + m ≡ 4) (en :
   whole : bitXor v (w / 2 ^ (m * 8) * 2 ^ 32 % 2 ^ 64) ≡ leAt b 0 0 (4 + d)
   unfolding upper
   whole =
-      ap₂ (λ (x y : ℕ). bitXor x (y * 2 ^ 32 % 2 ^ 64)) ev upper-place
+      ap₂ (λ (x y : ℕ). bitXor x (y * 2 ^ 32 % 2 ^ 64)) ev upper-half
       ∙ ap (bitXor (leAt b 0 0 4)) (shl-mod upper 32 32 ∙ ap (λ (y : ℕ). y * 2 ^ 32) (mod-eq-of-lt upper-lt))
       ∙ xor-comm (leAt b 0 0 4) (upper * 2 ^ 32)
       ∙ xor-shifted upper 32 (leAt b 0 0 4) (leAt-lt b hb 0 0 4)

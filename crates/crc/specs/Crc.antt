@@ -3,10 +3,11 @@ use Prim.Native.Nat.{ℕ, zero, suc, _*_, _/_, _%_}
 use mathlib.Core.List.{List, [], _∷_}
 use lib.Bits.{bitXor}
 
--- 01, "What comes over": the reflected CRC-16 with polynomial 0x8408 (ITU-T V.41's), start 0
+-- 01, "What comes over": the reflected CRC-16 with polynomial 0x8408 (ITU-T V.41's) ..
 abbrev pub polynomial : ℕ
 polynomial = 0x8408
 
+-- .. start 0
 abbrev pub start : ℕ
 start = 0
 
@@ -14,6 +15,7 @@ start = 0
 abbrev pub crcBit : ℕ → ℕ
 crcBit c = bitXor (c / 2) (c % 2 * polynomial)
 
+-- so many bits, one after another
 abbrev pub crcBits : ℕ → ℕ → ℕ
 crcBits zero c = c
 crcBits (suc n) c = crcBits n (crcBit c)

@@ -10,5 +10,6 @@ abbrev pub directed : Address → ℕ
 directed (From g) = 0x10000 + g .0
 directed (To g) = g .0
 
+-- the address From or To a gateway
 abbrev pub toward : Bool → ℕ → Address
 toward «from» id = cond «from» (From (record { 0 = id })) (To (record { 0 = id }))

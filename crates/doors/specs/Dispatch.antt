@@ -42,7 +42,7 @@ abbrev pub stepNews : Answer → List ℕ
 stepNews (answer.TooShort n) = n ∷ 0 ∷ 0 ∷ 0 ∷ []
 stepNews (answer.EnumerationStarted g) = g .0 ∷ 0 ∷ 0 ∷ 0 ∷ []
 stepNews (answer.SlotCounterObserved n s r a) = n .0 ∷ s .0 ∷ cond r 1 0 ∷ a ∷ []
-stepNews (answer.CommandExecuted p q n r) = p ∷ q ∷ n ∷ r ∷ []
+stepNews (answer.CommandExecuted p q n r) = p ∷ (q .0) ∷ n ∷ (r .0) ∷ []
 stepNews answer.OverLimit = 0 ∷ 0 ∷ 0 ∷ 0 ∷ []
 stepNews answer.InvalidGatewayID = 0 ∷ 0 ∷ 0 ∷ 0 ∷ []
 stepNews answer.WrongDirection = 0 ∷ 0 ∷ 0 ∷ 0 ∷ []
@@ -66,7 +66,7 @@ stepNews answer.SlotCounterCaptured = 0 ∷ 0 ∷ 0 ∷ 0 ∷ []
 
 -- what comes of a frame From or To a gateway
 abbrev pub steppedAt : Receiver → Bool → ℕ → ℕ → List ℕ → Stepped
-steppedAt r «from» id kind payload = stepIn r (frameOf (toward «from» id) (record { 0 = kind }) payload)
+steppedAt r «from» id frameType payload = stepIn r (frameOf (toward «from» id) (record { 0 = frameType }) payload)
 
 -- 12 where the state is over a limit
 abbrev pub resetAnswer : Bool → ℕ

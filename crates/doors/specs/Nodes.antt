@@ -17,10 +17,12 @@ abbrev pub nodeNumber : Node → ℕ
 nodeNumber (ID id) = id .0
 nodeNumber Zero = 0x10000
 
+-- the number of the node that comes next; 2^16 for none
 abbrev pub nextNumber : Successor → ℕ
 nextNumber (Next id) = id .0
 nextNumber Last = 0x10000
 
+-- the number of the node that comes after a number
 abbrev pub successorNumber : ℕ → ℕ
 successorNumber n = nextNumber (successorOf n)
 

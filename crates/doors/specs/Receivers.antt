@@ -16,15 +16,17 @@ use Rattle.link_receive.specs.Frames.{Given, nothing, frame, handed}
 use Rattle.link_receive.specs.Numbered.{receiverAt}
 use Rattle.doors.specs.Numbered.{numbered}
 
--- 0 for nothing, 1 for a frame, 2^32 times its number for a refusal
+-- 0 for nothing, 1 for a frame
 abbrev pub givenAs : Given → ℕ
 givenAs nothing = 0
 givenAs (frame address t n) = 1
 
+-- what is handed out; 2^32 times its number for a refusal
 abbrev pub crossing : Handed Given → ℕ
 crossing (value g) = givenAs g
 crossing (refused n) = n * 2 ^ 32
 
+-- an answer, by 01's number for it
 abbrev pub told : Answer → ℕ
 told a = crossing (handed a)
 
@@ -40,15 +42,17 @@ foundOf taken answer.Nothing = taken ∷ 0 ∷ 0 ∷ 0 ∷ []
 foundOf taken (answer.Frame address t n) = taken ∷ numbered (numberHanded address) ∷ t .0 ∷ n ∷ []
 foundOf taken answer.Refused = taken ∷ 0 ∷ 0 ∷ 0 ∷ []
 
--- what comes of a byte, a slice, a reset, at the receiver that ten numbers and a body say
+-- at the receiver that ten numbers and a body say, what comes of a byte ..
 abbrev pub pushedAt : List ℕ → List ℕ → ℕ → Stepped
-pushedAt place body b = stepOf crcOf (receiverAt place body) b
+pushedAt numbers body b = stepOf crcOf (receiverAt numbers body) b
 
+-- .. of a slice ..
 abbrev pub fedAt : List ℕ → List ℕ → List ℕ → Fed
-fedAt place body s = feedOf crcOf (receiverAt place body) s
+fedAt numbers body s = feedOf crcOf (receiverAt numbers body) s
 
+-- .. of a reset
 abbrev pub resetAt : List ℕ → List ℕ → Stepped
-resetAt place body = resetOf (receiverAt place body)
+resetAt numbers body = resetOf (receiverAt numbers body)
 
 -- and of a whole slice, from fresh
 abbrev pub heardOf : List ℕ → Receiver

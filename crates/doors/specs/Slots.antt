@@ -20,19 +20,22 @@ abbrev pub numberedSlot : Numbered → ℕ
 numberedSlot (Number n) = n .0
 numberedSlot (Invalid n) = 0x10000 + n .0
 
+-- the counter of an epoch and a slot number; a value that is none comes with 2^16 more
 abbrev pub countedSlot : SlotEpoch → Numbered → ℕ
 countedSlot e (Number n) = newOf e (n .0)
 countedSlot e (Invalid n) = 0x10000 + n .0
 
+-- the slots since; a value that is no slot number comes with 2^16 more
 abbrev pub sinceNumber : Since → ℕ
 sinceNumber (Slots n) = n
 sinceNumber (Bad n) = 0x10000 + n .0
 
--- a field; 2^16 where it is missing
+-- a field of one byte; 2^16 where it is missing
 abbrev pub byteOr : OptionalByte → ℕ
 byteOr (One x) = x
 byteOr NoByte = 0x10000
 
+-- a field of two bytes; 2^16 where it is missing
 abbrev pub pairOr : OptionalPair → ℕ
 pairOr (Two x y) = x * 256 + y
 pairOr NoPair = 0x10000

@@ -4,7 +4,6 @@ ghost use Rattle.transport_receiver.specs.Lent.{arrays, resetIn};
 ghost use Rattle.doors.specs.Dispatch.{stepAnswer, stepNews, steppedAt, resetAnswer};
 use link::Type;
 use transport_receiver::Answer;
-use transport_receiver::Receiver;
 
 // An answer as one number: a refusal by its number in 01's table; 0 for a frame that is counted and no more, 9 for a command kept,
 // and otherwise the kind of its event in 01's event record.
@@ -68,7 +67,12 @@ fn news_by(a: Answer) -> [u64; 4]
             request,
             length,
             response,
-        } => [place as u64, request as u64, length as u64, response as u64],
+        } => [
+            place as u64,
+            request.0 as u64,
+            length as u64,
+            response.0 as u64,
+        ],
         Answer::OverLimit => [0, 0, 0, 0],
         Answer::InvalidGatewayID => [0, 0, 0, 0],
         Answer::WrongDirection => [0, 0, 0, 0],
@@ -107,12 +111,12 @@ pub extern "C" fn johkkesir_transport_step(
     news: &mut [u64; 4],
     from: bool,
     id: u16,
-    kind: u16,
+    frame_type: u16,
     payload: &[u8],
 ) -> u64
-    ensures { λ r. ⌜ r ≡ stepAnswer (steppedAt (arrays (now (nkeys .entry)) (now (numbers .entry)) (now (skeys .entry)) (now (sequences .entry)) (now (ckeys .entry)) (now (ctypes .entry)) (now (clengths .entry)) (now (cpayloads .entry)) (now (counters .entry))) from id kind (now (payload .entry)) .answer) ⌝ }
-    ensures { λ _. ⌜ now (news .exit) ≡ stepNews (steppedAt (arrays (now (nkeys .entry)) (now (numbers .entry)) (now (skeys .entry)) (now (sequences .entry)) (now (ckeys .entry)) (now (ctypes .entry)) (now (clengths .entry)) (now (cpayloads .entry)) (now (counters .entry))) from id kind (now (payload .entry)) .answer) ⌝ }
-    ensures { λ _. ⌜ arrays (now (nkeys .exit)) (now (numbers .exit)) (now (skeys .exit)) (now (sequences .exit)) (now (ckeys .exit)) (now (ctypes .exit)) (now (clengths .exit)) (now (cpayloads .exit)) (now (counters .exit)) ≡ steppedAt (arrays (now (nkeys .entry)) (now (numbers .entry)) (now (skeys .entry)) (now (sequences .entry)) (now (ckeys .entry)) (now (ctypes .entry)) (now (clengths .entry)) (now (cpayloads .entry)) (now (counters .entry))) from id kind (now (payload .entry)) .receiver ⌝ }
+    ensures { λ r. ⌜ r ≡ stepAnswer (steppedAt (arrays (now (nkeys .entry)) (now (numbers .entry)) (now (skeys .entry)) (now (sequences .entry)) (now (ckeys .entry)) (now (ctypes .entry)) (now (clengths .entry)) (now (cpayloads .entry)) (now (counters .entry))) from id «frame_type» (now (payload .entry)) .answer) ⌝ }
+    ensures { λ _. ⌜ now (news .exit) ≡ stepNews (steppedAt (arrays (now (nkeys .entry)) (now (numbers .entry)) (now (skeys .entry)) (now (sequences .entry)) (now (ckeys .entry)) (now (ctypes .entry)) (now (clengths .entry)) (now (cpayloads .entry)) (now (counters .entry))) from id «frame_type» (now (payload .entry)) .answer) ⌝ }
+    ensures { λ _. ⌜ arrays (now (nkeys .exit)) (now (numbers .exit)) (now (skeys .exit)) (now (sequences .exit)) (now (ckeys .exit)) (now (ctypes .exit)) (now (clengths .exit)) (now (cpayloads .exit)) (now (counters .exit)) ≡ steppedAt (arrays (now (nkeys .entry)) (now (numbers .entry)) (now (skeys .entry)) (now (sequences .entry)) (now (ckeys .entry)) (now (ctypes .entry)) (now (clengths .entry)) (now (cpayloads .entry)) (now (counters .entry))) from id «frame_type» (now (payload .entry)) .receiver ⌝ }
 {
     let address = crate::address_toward(from, id);
     let a = transport_receiver::step_in(
@@ -126,7 +130,7 @@ pub extern "C" fn johkkesir_transport_step(
         cpayloads,
         counters,
         address,
-        Type(kind),
+        Type(frame_type),
         payload,
     );
     let n = news_by(a);
@@ -150,45 +154,6 @@ pub extern "C" fn johkkesir_transport_reset(
     ensures { λ r. ⌜ r ≡ resetAnswer (resetIn (arrays (now (nkeys .entry)) (now (numbers .entry)) (now (skeys .entry)) (now (sequences .entry)) (now (ckeys .entry)) (now (ctypes .entry)) (now (clengths .entry)) (now (cpayloads .entry)) (now (counters .entry))) .over) ⌝ }
     ensures { λ _. ⌜ arrays (now (nkeys .exit)) (now (numbers .exit)) (now (skeys .exit)) (now (sequences .exit)) (now (ckeys .exit)) (now (ctypes .exit)) (now (clengths .exit)) (now (cpayloads .exit)) (now (counters .exit)) ≡ resetIn (arrays (now (nkeys .entry)) (now (numbers .entry)) (now (skeys .entry)) (now (sequences .entry)) (now (ckeys .entry)) (now (ctypes .entry)) (now (clengths .entry)) (now (cpayloads .entry)) (now (counters .entry))) .receiver ⌝ }
 {
-    let a = *nkeys;
-    let b = *numbers;
-    let c = *skeys;
-    let d = *sequences;
-    let e = *ckeys;
-    let f = *ctypes;
-    let g = *clengths;
-    let h = *cpayloads;
-    let i = *counters;
-    let r = Receiver {
-        nkeys: a,
-        numbers: b,
-        skeys: c,
-        sequences: d,
-        ckeys: e,
-        ctypes: f,
-        clengths: g,
-        cpayloads: h,
-        counters: i,
-    };
-    let done = r.reset_counters();
-    let next = done.receiver;
-    let a = next.nkeys;
-    let b = next.numbers;
-    let c = next.skeys;
-    let d = next.sequences;
-    let e = next.ckeys;
-    let f = next.ctypes;
-    let g = next.clengths;
-    let h = next.cpayloads;
-    let i = next.counters;
-    *nkeys = a;
-    *numbers = b;
-    *skeys = c;
-    *sequences = d;
-    *ckeys = e;
-    *ctypes = f;
-    *clengths = g;
-    *cpayloads = h;
-    *counters = i;
-    if done.over { 12 << 32 } else { 0 }
+    let over = transport_receiver::reset_in(ckeys, clengths, counters);
+    if over { 12 << 32 } else { 0 }
 }

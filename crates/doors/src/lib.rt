@@ -119,14 +119,19 @@ pub extern "C" fn johkkesir_address_number(from: bool, id: u16) -> u64
 pub extern "C" fn johkkesir_encode(
     from: bool,
     id: u16,
-    kind: u16,
+    frame_type: u16,
     payload: &[u8],
     out: &mut [u8],
 ) -> u64
-    ensures { λ r. ⌜ r ≡ numbered (encodeHanded crcOf (toward from id) kind (now (payload .entry)) (length (now (out .entry)))) ⌝ }
-    ensures { λ _. ⌜ now (out .exit) ≡ encodeBytes crcOf (toward from id) kind (now (payload .entry)) (now (out .entry)) ⌝ }
+    ensures { λ r. ⌜ r ≡ numbered (encodeHanded crcOf (toward from id) «frame_type» (now (payload .entry)) (length (now (out .entry)))) ⌝ }
+    ensures { λ _. ⌜ now (out .exit) ≡ encodeBytes crcOf (toward from id) «frame_type» (now (payload .entry)) (now (out .entry)) ⌝ }
 {
-    match link::encode(address_toward(from, id), link::Type(kind), payload, out) {
+    match link::encode(
+        address_toward(from, id),
+        link::Type(frame_type),
+        payload,
+        out,
+    ) {
         link::Encoded::Written(n) => n as u64,
         link::Encoded::InvalidID => 13 << 32,
         link::Encoded::TooLong => 10 << 32,

@@ -68,12 +68,12 @@ pub extern "C" fn johkkesir_dsn_add(dsn: u8, n: u8) -> u8
 fn fields_of(h: ReceivedPacketHeader) -> [u64; 5]
     ensures { λ f. ⌜ f ≡ headerList h ⌝ }
 {
-    let kind = h.packet_type;
+    let packet_type = h.packet_type;
     let node = h.node_address;
     let short = h.short_address;
     let dsn = h.dsn;
     [
-        kind.0 as u64,
+        packet_type.0 as u64,
         node.0 as u64,
         short.0 as u64,
         dsn.0 as u64,

@@ -3,14 +3,14 @@ ghost use mathlib.Core.Path.{_≡_};
 ghost use Rattle.network.specs.Split.{foundAt, tallyOf};
 ghost use Rattle.transport.specs.Status.{acceptedOf, neededOf};
 ghost use Rattle.transport.specs.Number.{interpretOf};
-ghost use Rattle.doors.specs.Packets.{kindOf, placesOf, countsOf};
+ghost use Rattle.doors.specs.Packets.{foundNumber, boundsOf, countsOf};
 
 // What stands in a packet area at a place: 0 nothing, 1 too few bytes for a packet, 2 a packet, whose data's start and end are left in
 // `found`; otherwise 0 and 0 are.
 #[no_mangle]
 pub extern "C" fn johkkesir_packet_at(area: &[u8], at: usize, found: &mut [u64; 2]) -> u64
-    ensures { λ r. ⌜ r ≡ kindOf (foundAt (now (area .entry)) at) ⌝ }
-    ensures { λ _. ⌜ now (found .exit) ≡ placesOf (foundAt (now (area .entry)) at) ⌝ }
+    ensures { λ r. ⌜ r ≡ foundNumber (foundAt (now (area .entry)) at) ⌝ }
+    ensures { λ _. ⌜ now (found .exit) ≡ boundsOf (foundAt (now (area .entry)) at) ⌝ }
 {
     match network::packet_at(area, at) {
         network::Found::Finished => {
@@ -24,8 +24,8 @@ pub extern "C" fn johkkesir_packet_at(area: &[u8], at: usize, found: &mut [u64; 
             1
         }
         network::Found::Packet { data_at, end } => {
-            let places = [data_at as u64, end as u64];
-            *found = places;
+            let bounds = [data_at as u64, end as u64];
+            *found = bounds;
             2
         }
     }

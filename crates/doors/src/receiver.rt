@@ -1,12 +1,12 @@
 // The link receiver's doors. Its state crosses as ten numbers (the state's own, the length, and the eight tallies in the ledger's order)
 // and the 256 bytes of its body, both lent and left as the call leaves them.
 ghost use mathlib.Core.Path.{_≡_};
-ghost use Rattle.link_receive.specs.Numbered.{receiverAt, placeOf};
-ghost use Rattle.link_feed.specs.Lent.{placeLeft, placeFed};
+ghost use Rattle.link_receive.specs.Numbered.{receiverAt, numbersOf};
+ghost use Rattle.link_feed.specs.Lent.{numbersLeft, numbersFed};
 ghost use Rattle.doors.specs.Receivers.{told, takenBy, foundOf, pushedAt, fedAt, resetAt, heardOf};
 use link_receive::Answer;
 use link_receive::Receiver;
-use link_receive::numbered::place_of;
+use link_receive::numbered::numbers_of;
 use link_receive::numbered::receiver_at;
 
 // An answer as one number: 0 for nothing, 1 for a frame, or 12.
@@ -47,17 +47,17 @@ fn found_by(taken: u64, a: Answer) -> [u64; 4]
 // One byte.
 #[no_mangle]
 pub extern "C" fn johkkesir_push_u8(
-    place: &mut [u64; 10],
-    body: &mut [u8; 256],
+    numbers: &mut [u64; Receiver::NUMBERS],
+    body: &mut [u8; Receiver::ROOM],
     found: &mut [u64; 4],
     b: u8,
 ) -> u64
-    ensures { λ r. ⌜ r ≡ told (pushedAt (now (place .entry)) (now (body .entry)) b .answer) ⌝ }
-    ensures { λ _. ⌜ now (place .exit) ≡ placeLeft (now (place .entry)) (pushedAt (now (place .entry)) (now (body .entry)) b .next) ⌝ }
-    ensures { λ _. ⌜ now (body .exit) ≡ pushedAt (now (place .entry)) (now (body .entry)) b .next .body ⌝ }
-    ensures { λ _. ⌜ now (found .exit) ≡ foundOf (takenBy (pushedAt (now (place .entry)) (now (body .entry)) b .answer)) (pushedAt (now (place .entry)) (now (body .entry)) b .answer) ⌝ }
+    ensures { λ r. ⌜ r ≡ told (pushedAt (now (numbers .entry)) (now (body .entry)) b .answer) ⌝ }
+    ensures { λ _. ⌜ now (numbers .exit) ≡ numbersLeft (now (numbers .entry)) (pushedAt (now (numbers .entry)) (now (body .entry)) b .next) ⌝ }
+    ensures { λ _. ⌜ now (body .exit) ≡ pushedAt (now (numbers .entry)) (now (body .entry)) b .next .body ⌝ }
+    ensures { λ _. ⌜ now (found .exit) ≡ foundOf (takenBy (pushedAt (now (numbers .entry)) (now (body .entry)) b .answer)) (pushedAt (now (numbers .entry)) (now (body .entry)) b .answer) ⌝ }
 {
-    let was = *place;
+    let was = *numbers;
     if 256 < was[1] {
         let none = [0u64; 4];
         *found = none;
@@ -69,10 +69,10 @@ pub extern "C" fn johkkesir_push_u8(
     let next = f.next;
     let answer = f.answer;
     let units = next.body;
-    let put = place_of(next);
-    let numbers = put.place;
+    let put = numbers_of(next);
+    let after = put.numbers;
     let news = found_by(1, answer);
-    *place = numbers;
+    *numbers = after;
     *body = units;
     *found = news;
     told_by(answer)
@@ -81,17 +81,17 @@ pub extern "C" fn johkkesir_push_u8(
 // A slice, up to the first frame handed out or its end.
 #[no_mangle]
 pub extern "C" fn johkkesir_feed(
-    place: &mut [u64; 10],
-    body: &mut [u8; 256],
+    numbers: &mut [u64; Receiver::NUMBERS],
+    body: &mut [u8; Receiver::ROOM],
     found: &mut [u64; 4],
     s: &[u8],
 ) -> u64
-    ensures { λ r. ⌜ r ≡ told (fedAt (now (place .entry)) (now (body .entry)) (now (s .entry)) .answer) ⌝ }
-    ensures { λ _. ⌜ now (place .exit) ≡ placeFed (now (place .entry)) (fedAt (now (place .entry)) (now (body .entry)) (now (s .entry))) ⌝ }
-    ensures { λ _. ⌜ now (body .exit) ≡ fedAt (now (place .entry)) (now (body .entry)) (now (s .entry)) .next .body ⌝ }
-    ensures { λ _. ⌜ now (found .exit) ≡ foundOf (fedAt (now (place .entry)) (now (body .entry)) (now (s .entry)) .taken) (fedAt (now (place .entry)) (now (body .entry)) (now (s .entry)) .answer) ⌝ }
+    ensures { λ r. ⌜ r ≡ told (fedAt (now (numbers .entry)) (now (body .entry)) (now (s .entry)) .answer) ⌝ }
+    ensures { λ _. ⌜ now (numbers .exit) ≡ numbersFed (now (numbers .entry)) (fedAt (now (numbers .entry)) (now (body .entry)) (now (s .entry))) ⌝ }
+    ensures { λ _. ⌜ now (body .exit) ≡ fedAt (now (numbers .entry)) (now (body .entry)) (now (s .entry)) .next .body ⌝ }
+    ensures { λ _. ⌜ now (found .exit) ≡ foundOf (fedAt (now (numbers .entry)) (now (body .entry)) (now (s .entry)) .taken) (fedAt (now (numbers .entry)) (now (body .entry)) (now (s .entry)) .answer) ⌝ }
 {
-    let f = link_feed::lending::feed_in(place, body, s);
+    let f = link_feed::lending::feed_in(numbers, body, s);
     let answer = f.answer;
     let news = found_by(f.taken as u64, answer);
     *found = news;
@@ -100,12 +100,15 @@ pub extern "C" fn johkkesir_feed(
 
 // The eight tallies to 0.
 #[no_mangle]
-pub extern "C" fn johkkesir_reset_counters(place: &mut [u64; 10], body: &mut [u8; 256]) -> u64
-    ensures { λ r. ⌜ r ≡ told (resetAt (now (place .entry)) (now (body .entry)) .answer) ⌝ }
-    ensures { λ _. ⌜ now (place .exit) ≡ placeLeft (now (place .entry)) (resetAt (now (place .entry)) (now (body .entry)) .next) ⌝ }
-    ensures { λ _. ⌜ now (body .exit) ≡ resetAt (now (place .entry)) (now (body .entry)) .next .body ⌝ }
+pub extern "C" fn johkkesir_reset_counters(
+    numbers: &mut [u64; Receiver::NUMBERS],
+    body: &mut [u8; Receiver::ROOM],
+) -> u64
+    ensures { λ r. ⌜ r ≡ told (resetAt (now (numbers .entry)) (now (body .entry)) .answer) ⌝ }
+    ensures { λ _. ⌜ now (numbers .exit) ≡ numbersLeft (now (numbers .entry)) (resetAt (now (numbers .entry)) (now (body .entry)) .next) ⌝ }
+    ensures { λ _. ⌜ now (body .exit) ≡ resetAt (now (numbers .entry)) (now (body .entry)) .next .body ⌝ }
 {
-    let was = *place;
+    let was = *numbers;
     if 256 < was[1] {
         return 12 << 32;
     }
@@ -115,22 +118,22 @@ pub extern "C" fn johkkesir_reset_counters(place: &mut [u64; 10], body: &mut [u8
     let next = f.next;
     let answer = f.answer;
     let units = next.body;
-    let put = place_of(next);
-    let numbers = put.place;
-    *place = numbers;
+    let put = numbers_of(next);
+    let after = put.numbers;
+    *numbers = after;
     *body = units;
     told_by(answer)
 }
 
 // The ten numbers of a fresh receiver after a whole slice.
 #[no_mangle]
-pub extern "C" fn johkkesir_ledger(s: &[u8], place: &mut [u64; 10])
-    ensures { λ _. ⌜ now (place .exit) ≡ placeOf (heardOf (now (s .entry))) ⌝ }
+pub extern "C" fn johkkesir_ledger(s: &[u8], numbers: &mut [u64; Receiver::NUMBERS])
+    ensures { λ _. ⌜ now (numbers .exit) ≡ numbersOf (heardOf (now (s .entry))) ⌝ }
 {
     let r = Receiver::new();
     let f = link_feed::extend_from_slice(r, s);
     let next = f.next;
-    let put = place_of(next);
-    let numbers = put.place;
-    *place = numbers;
+    let put = numbers_of(next);
+    let after = put.numbers;
+    *numbers = after;
 }

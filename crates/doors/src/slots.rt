@@ -1,6 +1,6 @@
 // The doors of slot counters and of receive responses' fields.
 ghost use mathlib.Core.Path.{_≡_};
-ghost use Rattle.slot_counter.specs.Slots.{slotsSinceOf, slotNumberOf, numberIn, epochOf, epochAt, placeOf, addedOf};
+ghost use Rattle.slot_counter.specs.Slots.{slotsSinceOf, slotNumberOf, numberIn, epochOf, epochAt, indexOf, addedOf};
 ghost use Rattle.transport.specs.Response.{receiveReadOf};
 ghost use Rattle.doors.specs.Slots.{numberedSlot, countedSlot, sinceNumber, byteOr, pairOr, readFields, readAnswer, readNews};
 use slot_counter::Numbered;
@@ -25,12 +25,12 @@ pub extern "C" fn johkkesir_slot_number(counter: u16) -> u32
     }
 }
 
-// The place of a counter's epoch among the four.
+// The index of a counter's epoch among the four.
 #[no_mangle]
 pub extern "C" fn johkkesir_slot_epoch(counter: u16) -> u8
-    ensures { λ r. ⌜ r ≡ placeOf (epochOf counter) ⌝ }
+    ensures { λ r. ⌜ r ≡ indexOf (epochOf counter) ⌝ }
 {
-    SlotCounter(counter).epoch().place()
+    SlotCounter(counter).epoch().index()
 }
 
 // How many slots one counter is after another; the first value that is no slot number comes with 2^16 more.
@@ -111,11 +111,11 @@ pub extern "C" fn johkkesir_receive_response(payload: &[u8], old: u16, fields: &
     }
 }
 
-// The epoch at a place; any place past the third is the third.
-fn epoch_named(place: u8) -> SlotEpoch
-    ensures { λ r. ⌜ r ≡ epochAt place ⌝ }
+// The epoch of an index; any index past 3 is the last epoch's.
+fn epoch_named(index: u8) -> SlotEpoch
+    ensures { λ r. ⌜ r ≡ epochAt index ⌝ }
 {
-    match place {
+    match index {
         0 => SlotEpoch::Epoch0,
         1 => SlotEpoch::Epoch4,
         2 => SlotEpoch::Epoch8,
@@ -123,22 +123,22 @@ fn epoch_named(place: u8) -> SlotEpoch
     }
 }
 
-// The place of the epoch so many epochs on.
+// The index of the epoch so many epochs on.
 #[no_mangle]
-pub extern "C" fn johkkesir_epoch_add(place: u8, n: u8) -> u8
-    ensures { λ r. ⌜ r ≡ placeOf (addedOf (epochAt place) n) ⌝ }
+pub extern "C" fn johkkesir_epoch_add(index: u8, n: u8) -> u8
+    ensures { λ r. ⌜ r ≡ indexOf (addedOf (epochAt index) n) ⌝ }
 {
-    epoch_named(place).add(n).place()
+    epoch_named(index).add(n).index()
 }
 
 // The counter of an epoch and a slot number; a value that is none comes with 2^16 more.
 #[no_mangle]
-pub extern "C" fn johkkesir_slot_counter(place: u8, number: u16) -> u32
-    ensures { λ r. ⌜ r ≡ countedSlot (epochAt place) (slotNumberOf number) ⌝ }
+pub extern "C" fn johkkesir_slot_counter(index: u8, number: u16) -> u32
+    ensures { λ r. ⌜ r ≡ countedSlot (epochAt index) (slotNumberOf number) ⌝ }
 {
     match SlotNumber::try_from(number) {
         Numbered::Number(n) => {
-            let made = SlotCounter::new(epoch_named(place), n);
+            let made = SlotCounter::new(epoch_named(index), n);
             made.0 as u32
         }
         Numbered::Invalid(n) => 0x1_0000 + (n.0 as u32),

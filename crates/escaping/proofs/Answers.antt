@@ -11,7 +11,7 @@ use mathlib.Core.Bool.{Bool, true, false, cond}
 use Rattle.laws.specs.Bytes.{laidOver}
 use Rattle.laws.specs.Handed.{refused, value}
 use Rattle.escaping.specs.Escapes.{escaped}
-use Rattle.escaping.specs.Handed.{handedByte, handedLength, handedWritten, inputLimit, lengthHanded, escapeHanded, escapeBytes}
+use Rattle.escaping.specs.Handed.{handedByte, handedLength, handedWritten, inputLimit, escapeHanded, escapeBytes}
 use Rattle.escaping.specs.declared.Unescaped.{Unescaped}
 use Rattle.escaping.specs.declared.Unescaped.the-variants.{Byte, Invalid}
 use Rattle.escaping.specs.declared.Measured.{Measured}
@@ -44,10 +44,6 @@ handedWritten-same NoRoom NoRoom e = refl
 
 -- an input within the limit, and room for its escaped form: `encode` cites these
 module _ (input : List ℕ) (within : length input ≤ inputLimit) where
-  pub lengthHanded-within : lengthHanded input ≡ value (length (escaped input))
-  unfolding lengthHanded
-  lengthHanded-within = rw (le-ltb inputLimit (length input) within)
-
   pub escapeHanded-fits : (room : ℕ) → length (escaped input) ≤ room → escapeHanded input room ≡ value (length (escaped input))
   unfolding escapeHanded
   escapeHanded-fits room h = rw (le-ltb inputLimit (length input) within, le-ltb room (length (escaped input)) h)

@@ -11,7 +11,7 @@ use lib.Dec.{ltb, eqb}
 use lib.ListN.{length, getD}
 use borrow.Author.Tests.{le-ltb, lt-ltb, ltb-true, ltb-false, eqb-true, eqb-false, ne-eqb}
 use Rattle.laws.specs.Handed.{refused}
-use Rattle.escaping.specs.Escapes.{escapes, placeIn, codeOf, unescapedOf, escapedByte, escaped, unescaped, Paired, none, raw, pair, datum, opener, closer, neither, meaning}
+use Rattle.escaping.specs.Escapes.{escapes, indexIn, codeOf, unescapedOf, escapedByte, escaped, unescaped, Paired, none, raw, pair, datum, opener, closer, neither, meaning}
 use Rattle.escaping.specs.Handed.{unescapeMeant, unescapeHanded}
 
 -- 00 to 06 are data after 7e
@@ -29,37 +29,37 @@ unescapeHanded-above b h = rw (le-ltb b 7 h) (go (eqb b 7) (eqb b 8))
     go false true = refl
     go false false = refl
 
--- a byte stands at its place
-pub getD-placeIn : (xs : List ℕ) (b : ℕ) → placeIn xs b < length xs → getD xs (placeIn xs b) 0 ≡ b
-getD-placeIn [] b h = absurd (not-suc-le-zero h)
-getD-placeIn (x ∷ xs) b h = go (eqb x b) refl (getD-placeIn xs b) h
+-- a byte stands at its index
+pub getD-indexIn : (xs : List ℕ) (b : ℕ) → indexIn xs b < length xs → getD xs (indexIn xs b) 0 ≡ b
+getD-indexIn [] b h = absurd (not-suc-le-zero h)
+getD-indexIn (x ∷ xs) b h = go (eqb x b) refl (getD-indexIn xs b) h
   where
-    go : (t : Bool) → eqb x b ≡ t → (placeIn xs b < length xs → getD xs (placeIn xs b) 0 ≡ b) → cond t 0 (suc (placeIn xs b)) < suc (length xs)
-        → getD (x ∷ xs) (cond t 0 (suc (placeIn xs b))) 0 ≡ b
+    go : (t : Bool) → eqb x b ≡ t → (indexIn xs b < length xs → getD xs (indexIn xs b) 0 ≡ b) → cond t 0 (suc (indexIn xs b)) < suc (length xs)
+        → getD (x ∷ xs) (cond t 0 (suc (indexIn xs b))) 0 ≡ b
     go true e ih g = eqb-true x b e
     go false e ih g = ih (le-of-suc-le-suc g)
 
--- it has a place in a list exactly if it is in it
-pub placeIn-lt : (xs : List ℕ) (b : ℕ) → (placeIn xs b < length xs) ↔ List·Memᴰ b xs
-placeIn-lt [] b = (λ h. absurd (not-suc-le-zero h), λ m. absurd (List·Memᴰ·not-nil m))
-placeIn-lt (x ∷ xs) b = go (eqb x b) refl (placeIn-lt xs b)
+-- its index lies in a list exactly if it is in it
+pub indexIn-lt : (xs : List ℕ) (b : ℕ) → (indexIn xs b < length xs) ↔ List·Memᴰ b xs
+indexIn-lt [] b = (λ h. absurd (not-suc-le-zero h), λ m. absurd (List·Memᴰ·not-nil m))
+indexIn-lt (x ∷ xs) b = go (eqb x b) refl (indexIn-lt xs b)
   where
-    go : (t : Bool) → eqb x b ≡ t → (placeIn xs b < length xs) ↔ List·Memᴰ b xs → (cond t 0 (suc (placeIn xs b)) < suc (length xs)) ↔ List·Memᴰ b (x ∷ xs)
+    go : (t : Bool) → eqb x b ≡ t → (indexIn xs b < length xs) ↔ List·Memᴰ b xs → (cond t 0 (suc (indexIn xs b)) < suc (length xs)) ↔ List·Memᴰ b (x ∷ xs)
     go true e ih = (λ h. List·Memᴰ·head (sym (eqb-true x b e)), λ m. omega arith)
     go false e ih = (
       λ h. List·Memᴰ·tail (ih .0 (le-of-suc-le-suc h)),
-      λ m. ⊎-elim (λ p. absurd (eqb-false x b e (sym p))) (λ n. let l : placeIn xs b < length xs = ih .1 n in omega arith) (List·Memᴰ·cases-cons m),
+      λ m. ⊎-elim (λ p. absurd (eqb-false x b e (sym p))) (λ n. let l : indexIn xs b < length xs = ih .1 n in omega arith) (List·Memᴰ·cases-cons m),
     )
 
 -- a byte has a code below 7 exactly if it is one of the seven
 pub codeOf-lt : (b : ℕ) → (codeOf b < 7) ↔ List·Memᴰ b escapes
 unfolding codeOf
-codeOf-lt b = placeIn-lt escapes b
+codeOf-lt b = indexIn-lt escapes b
 
 -- 7e and the code of a byte stand for that byte
 pub unescapedOf-codeOf : (b : ℕ) → codeOf b < 7 → unescapedOf (codeOf b) ≡ b
 unfolding codeOf
-unescapedOf-codeOf b h = getD-placeIn escapes b h
+unescapedOf-codeOf b h = getD-indexIn escapes b h
 
 -- none of the seven
 pub codeOf-other : (b : ℕ) → (b ≡ 0x7e → ⊥) → (b ≡ 0x24 → ⊥) → (b ≡ 0x23 → ⊥) → (b ≡ 0x25 → ⊥) → (b ≡ 0xa4 → ⊥) → (b ≡ 0xa3 → ⊥) → (b ≡ 0xa5 → ⊥) → codeOf b ≡ 7
@@ -92,11 +92,11 @@ pub codeOf-le : (b : ℕ) → codeOf b ≤ 7
 unfolding codeOf
 codeOf-le b = le escapes b
   where
-    le : (xs : List ℕ) (b : ℕ) → placeIn xs b ≤ length xs
+    le : (xs : List ℕ) (b : ℕ) → indexIn xs b ≤ length xs
     le [] b = omega arith
     le (x ∷ xs) b = go (eqb x b) (le xs b)
       where
-        go : (t : Bool) → placeIn xs b ≤ length xs → cond t 0 (suc (placeIn xs b)) ≤ suc (length xs)
+        go : (t : Bool) → indexIn xs b ≤ length xs → cond t 0 (suc (indexIn xs b)) ≤ suc (length xs)
         go true h = omega arith
         go false h = omega arith
 

@@ -10,10 +10,10 @@ use lib.ListN.{length, getD, take, drop, set, length-append, length-drop, length
 use lib.Seq.{paste, length-paste, set-split, append-snoc, take-suc, getD-drop, length-take-le, take-length}
 use Rattle.laws.specs.Bytes.{laidOver}
 use Rattle.laws.proofs.Lay.{laidOver-paste, paste-append}
-use Rattle.runs.specs.Runs.{isOf, lead, All}
-use Rattle.runs.specs.declared.Sort.the-variants as sort
+use Rattle.byte_runs.specs.Runs.{isOf, lead, All}
+use Rattle.byte_runs.specs.declared.Sort.the-variants as sort
 use Rattle.laws.proofs.Cases.{never}
-use Rattle.runs.proofs.Laws.{copy-placed, copy-all}
+use Rattle.byte_runs.proofs.Laws.{copy-inside, copy-all}
 use Rattle.escaping.specs.Escapes.{codeOf, escapedByte, escaped}
 use Rattle.escaping.proofs.Laws.{codeOf-other}
 use Rattle.escaping.proofs.Lengths.{escaped-take, escaped-take-raw, escaped-take-end, length-escaped-take}
@@ -48,7 +48,7 @@ escaped-run xs i (suc n) h f =
 
 -- the escaped form of the first i bytes, k long, is laid over the buffer
 pub record Laid (xs out next : List ℕ) (i k : ℕ) : Type 0 where
-  pub placed : i ≤ length xs
+  pub inside : i ≤ length xs
   pub sized : length next ≡ length out
   pub long : k ≡ length (escaped (take i xs))
   pub bytes : next ≡ laidOver (escaped (take i xs)) out
@@ -56,7 +56,7 @@ pub record Laid (xs out next : List ℕ) (i k : ℕ) : Type 0 where
 module _ (xs out : List ℕ) (fits : length (escaped xs) ≤ length out) where
   pub laid-none : Laid xs out out 0 0
   unfolding escaped
-  laid-none = record { placed = omega arith; sized = refl; long = refl; bytes = refl }
+  laid-none = record { inside = omega arith; sized = refl; long = refl; bytes = refl }
 
   pub laid-all : (next : List ℕ) (i k : ℕ) → length xs ≤ i → Laid xs out next i k → (k ≡ length (escaped xs)) × (next ≡ laidOver (escaped xs) out)
   laid-all next i k h l =
@@ -76,7 +76,7 @@ module _ (xs out : List ℕ) (fits : length (escaped xs) ≤ length out) where
     laid-piece ys next j h e p =
         let w = escaped (take i xs) in
         record {
-          placed = h;
+          inside = h;
           sized = ap length p ∙ length-paste d k ys (length ys) (piece-room ys j e) (omega arith) ∙ l .sized;
           long = simp length-append (omega (arith, l .long)) ∙ ap length (sym e);
           bytes = p ∙ rw (l .bytes, l .long, e) (laidOver-paste w ys out);
@@ -86,10 +86,10 @@ module _ (xs out : List ℕ) (fits : length (escaped xs) ≤ length out) where
     pub laid-run : (next : List ℕ) (n : ℕ) → n ≡ lead (isOf sort.Plain) (take (length d - k) (drop i xs)) → next ≡ paste d k (drop i xs) n → Laid xs out next (i + n) (k + n)
     laid-run next n e p =
         let room = length d - k in
-        let here : i + n ≤ length xs = copy-placed (isOf sort.Plain) xs i room n (l .placed) e in
+        let here : i + n ≤ length xs = copy-inside (isOf sort.Plain) xs i room n (l .inside) e in
         let ys = take n (drop i xs) in
         let long : length ys ≡ n = length-take-le n (drop i xs) (simp length-drop (omega arith)) in
-        let g : escaped (take (i + n) xs) ≡ escaped (take i xs) ++ ys = escaped-run xs i n here (copy-all (isOf sort.Plain) xs i room n (l .placed) e) in
+        let g : escaped (take (i + n) xs) ≡ escaped (take i xs) ++ ys = escaped-run xs i n here (copy-all (isOf sort.Plain) xs i room n (l .inside) e) in
         rw long at (laid-piece ys next (i + n) here g (p ∙ rw (take-length ys, long)))
 
     -- after a byte, whatever it is

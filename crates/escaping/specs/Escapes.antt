@@ -15,18 +15,19 @@ abbrev pub unescapedOf : ℕ → ℕ
 unescapedOf code = getD escapes code 0
 
 -- where a byte stands in a list, counted from 0; the list's length if it does not
-abbrev pub placeIn : List ℕ → ℕ → ℕ
-placeIn [] b = 0
-placeIn (x ∷ xs) b = cond (eqb x b) 0 (suc (placeIn xs b))
+abbrev pub indexIn : List ℕ → ℕ → ℕ
+indexIn [] b = 0
+indexIn (x ∷ xs) b = cond (eqb x b) 0 (suc (indexIn xs b))
 
 -- the code of a byte that is escaped; 7 for any other
 unfoldable pub codeOf : ℕ → ℕ
-codeOf b = placeIn escapes b
+codeOf b = indexIn escapes b
 
 -- a byte on the wire: 7e and its code, or itself
 unfoldable pub escapedByte : ℕ → List ℕ
 escapedByte b = cond (ltb (codeOf b) 7) (0x7e ∷ codeOf b ∷ []) (b ∷ [])
 
+-- a list of bytes on the wire: its bytes there, one after another
 unfoldable pub escaped : List ℕ → List ℕ
 escaped [] = []
 escaped (b ∷ bs) = escapedByte b ++ escaped bs
@@ -48,9 +49,11 @@ unfoldable pub sevens : List ℕ → ℕ
 sevens [] = 0
 sevens (b ∷ bs) = cond (ltb (codeOf b) 7) 1 0 + sevens bs
 
--- what the byte after 7e means: data for 00 to 06, the opener 07, the closer 08, or neither
+-- what the byte after 7e means. 01, "The reading of a stream": 7e 00 to 7e 06 are data; 7e 07 opens a frame; closed by 7e 08; any other pair
+-- does neither
 pub data Meaning : Type 0 where
   datum opener closer neither : Meaning
 
+-- which byte means what: below 07 data, 07 the opener, 08 the closer, above that neither
 unfoldable pub meaning : ℕ → Meaning
 meaning b = cond (ltb b 7) datum (cond (eqb b 7) opener (cond (eqb b 8) closer neither))

@@ -7,7 +7,7 @@ ghost use lib.Dec.{leb};
 ghost use Rattle.laws.specs.Bytes.{laidOver};
 ghost use Rattle.escaping.specs.Escapes.{codeOf, escapedByte, escaped};
 ghost use Rattle.escaping.specs.Handed.{handedByte, handedLength, handedWritten, inputLimit, unescapeHanded, lengthHanded, escapeHanded, escapeBytes};
-use runs::Sort;
+use byte_runs::Sort;
 
 // The longest input that is escaped or measured.
 pub const INPUT_LIMIT: usize = 65536;
@@ -111,7 +111,7 @@ fn write_escaped(input: &[u8], out: &mut [u8]) -> usize
     let mut k = 0;
     let mut i = 0;
     while i < input.len() {
-        let n = runs::copy_run(Sort::Plain, out, k, input, i);
+        let n = byte_runs::copy_run(Sort::Plain, out, k, input, i);
         k += n;
         i += n;
         if i == input.len() {

@@ -6,9 +6,9 @@ use mathlib.Core.List.{List, [], _∷_, _++_, append-assoc}
 use native.Mathlib.Omega.{arith}
 use lib.ListN.{length, length-append}
 use borrow.Author.Tests.{le-leb}
-use Rattle.laws.proofs.Lay.{paste-append}
+use Rattle.words.specs.Words.{copiedIn}
+use Rattle.words.proofs.Laws.{copiedIn-append}
 use Rattle.sound_record.specs.Record.{written, soundBody}
-use Rattle.event_record.specs.Layout.{laidAt}
 use Rattle.event_record.specs.Event.{bodyOf, command}
 use Rattle.sound_record.proofs.Soundness.{soundBody-8, soundBody-8-wide, soundBody-8-long}
 
@@ -30,14 +30,15 @@ module _ (t u : ℕ) (q p : List ℕ) where
   command-long h = soundBody-8-long written body (omega (arith, length-command))
 
   -- a piece behind those before it
-  laid : (out xs ys d e : List ℕ) (k : ℕ) → 6 ≤ length out → d ≡ laidAt 6 xs out → k ≡ 6 + length xs → e ≡ laidAt k ys d → e ≡ laidAt 6 (xs ++ ys) out
-  laid out xs ys d e k h f g i = i ∙ rw (f, g) (paste-append out 6 xs ys h)
+  laid : (out xs ys d e : List ℕ) (k : ℕ) → 6 + length xs + length ys ≤ length out → d ≡ copiedIn out 6 xs → k ≡ 6 + length xs → e ≡ copiedIn d k ys
+      → e ≡ copiedIn out 6 (xs ++ ys)
+  laid out xs ys d e k h f g i = i ∙ rw (f, g) (copiedIn-append out 6 xs ys h)
 
-  pub command-laid : (out d₁ d₂ d₃ d₄ : List ℕ) → 6 ≤ length out → d₁ ≡ laidAt 6 (t ∷ length q ∷ []) out → d₂ ≡ laidAt 8 q d₁
-      → d₃ ≡ laidAt (8 + length q) (u ∷ []) d₂ → d₄ ≡ laidAt (9 + length q) p d₃ → d₄ ≡ laidAt 6 body out
+  pub command-laid : (out d₁ d₂ d₃ d₄ : List ℕ) → 9 + length q + length p ≤ length out → d₁ ≡ copiedIn out 6 (t ∷ length q ∷ []) → d₂ ≡ copiedIn d₁ 8 q
+      → d₃ ≡ copiedIn d₂ (8 + length q) (u ∷ []) → d₄ ≡ copiedIn d₃ (9 + length q) p → d₄ ≡ copiedIn out 6 body
   command-laid out d₁ d₂ d₃ d₄ h e₁ e₂ e₃ e₄ =
       let x : List ℕ = t ∷ length q ∷ [] in
-      let f₂ = laid out x q d₁ d₂ 8 h e₁ refl e₂ in
-      let f₃ = laid out (x ++ q) (u ∷ []) d₂ d₃ (8 + length q) h f₂ (omega arith) e₃ in
-      let f₄ = laid out ((x ++ q) ++ (u ∷ [])) p d₃ d₄ (9 + length q) h f₃ (simp length-append (omega arith)) e₄ in
-      f₄ ∙ ap (λ (l : List ℕ). laidAt 6 (t ∷ length q ∷ l) out) (append-assoc q (u ∷ []) p)
+      let f₂ = laid out x q d₁ d₂ 8 (omega arith) e₁ refl e₂ in
+      let f₃ = laid out (x ++ q) (u ∷ []) d₂ d₃ (8 + length q) (omega arith) f₂ (omega arith) e₃ in
+      let f₄ = laid out ((x ++ q) ++ (u ∷ [])) p d₃ d₄ (9 + length q) (simp length-append (omega arith)) f₃ (simp length-append (omega arith)) e₄ in
+      f₄ ∙ ap (λ (l : List ℕ). copiedIn out 6 (t ∷ length q ∷ l)) (append-assoc q (u ∷ []) p)

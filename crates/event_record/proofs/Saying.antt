@@ -11,8 +11,8 @@ use lib.Seq.{length-take-le, split-at, getD-drop}
 use lib.Dec.{leb, eqb}
 use borrow.Author.Tests.{eqb-true, leb-true}
 use Rattle.laws.specs.Bytes.{Bytes, be16, be16At}
-use Rattle.sound_record.specs.Record.{bodyStart, isCounter, isBody, soundBody, soundAt}
-use Rattle.event_record.specs.Layout.{framed}
+use Rattle.sound_record.specs.Record.{kindAt, between, bodyStart, isCounter, isBody, soundBody, allBelow, soundAt}
+use Rattle.event_record.specs.Layout.{extra, framed}
 use Rattle.event_record.specs.Event.{Event, enumeration-started, identity, version-text, enumeration-ended, slot-captured, slot-counter, packet, command, kindOf, bodyOf, recordOf, eventOf, gatewayIn, saysOf}
 use Rattle.sound_record.proofs.Soundness.{Parts, both, sound-parts, soundBody-1, soundBody-4, soundBody-5, soundBody-8, soundBody-other}
 use Rattle.event_record.proofs.Written.{sound-small}
@@ -88,8 +88,13 @@ module _ (v : ℕ) where
       asked b (leb-true (3 + getD b 1 0) (length b) (sym (soundBody-8 v b (h 1) (sound-small v 8 b s)) ∙ s))
   said (suc (suc (suc (suc (suc (suc (suc (suc (suc k))))))))) b h s = no-kind _ b (omega arith) s
 
+-- what may stand between gateway and body is what is written there, and nothing else
+extra-told : (v : ℕ) (rest : List ℕ) → allBelow (between v) rest ≡ true → extra v ++ drop (length (between v)) rest ≡ rest
+unfolding extra between
+extra-told v rest m = refl
+
 -- the head of a sound record is the one that is written
-parts-framed : (v : ℕ) (r : List ℕ) → Bytes r → Parts v r → framed v (getD r 3 0) (gatewayIn r) (drop (bodyStart v) r) ≡ r
+parts-framed : (v : ℕ) (r : List ℕ) → Bytes r → Parts v r → framed v (getD r kindAt 0) (gatewayIn r) (drop (bodyStart v) r) ≡ r
 unfolding framed
 parts-framed v [] h p = absurd (omega (arith, p .head))
 parts-framed v (a ∷ []) h p = absurd (omega (arith, p .head))
@@ -97,18 +102,19 @@ parts-framed v (a ∷ b ∷ []) h p = absurd (omega (arith, p .head))
 parts-framed v (a ∷ b ∷ w ∷ []) h p = absurd (omega (arith, p .head))
 parts-framed v (a ∷ b ∷ w ∷ k ∷ []) h p = absurd (omega (arith, p .head))
 parts-framed v (a ∷ b ∷ w ∷ k ∷ c ∷ []) h p = absurd (omega (arith, p .head))
-parts-framed v (a ∷ b ∷ w ∷ k ∷ c ∷ d ∷ body) h p =
-    let n : ℕ = suc (suc (suc (suc (length body)))) in
+parts-framed v (a ∷ b ∷ w ∷ k ∷ c ∷ d ∷ rest) h p =
+    let m : bodyStart v ≡ suc (suc (suc (suc (suc (suc (length (between v))))))) = omega arith in
+    let n : ℕ = suc (suc (suc (suc (length rest)))) in
     let e₁ : n / 256 ≡ a = omega (arith, p .whole, h 1) in
     let e₂ : n % 256 ≡ b = omega (arith, p .whole, h 1) in
     let e₃ : (c * 256 + d) / 256 ≡ c = omega (arith, h 5) in
     let e₄ : (c * 256 + d) % 256 ≡ d = omega (arith, h 5) in
-    rw (e₁, e₂, e₃, e₄, p .version)
+    rw (m, extra-told v rest (p .between), e₁, e₂, e₃, e₄, p .version)
 
 module _ (v : ℕ) (r : List ℕ) (h : Bytes r) (s : soundAt v r ≡ true) where
   -- what a sound record says
-  pub told : Said v (getD r 3 0) (drop (bodyStart v) r)
-  told = said v (getD r 3 0) (drop (bodyStart v) r) (λ i. rw (getD-drop 6 r i 0) (h (6 + i))) (sound-parts v r s .body)
+  pub told : Said v (getD r kindAt 0) (drop (bodyStart v) r)
+  told = said v (getD r kindAt 0) (drop (bodyStart v) r) (λ i. rw (getD-drop (bodyStart v) r i 0) (h (bodyStart v + i))) (sound-parts v r s .body)
 
   pub record-says : saysOf v r ≡ some (told .event)
   record-says = told .says

@@ -14,17 +14,18 @@ use borrow.Author.Tests.{ltb-false}
 use Rattle.laws.specs.Bytes.{be16, be16At, laidOver}
 use Rattle.laws.specs.Handed.{Handed, refused, value}
 use Rattle.sound_record.specs.Record.{written, soundAt, standsAt}
-use Rattle.event_record.specs.Layout.{framed}
+use Rattle.event_record.specs.Layout.{extra, framed}
 use Rattle.event_record.specs.Event.{Event, enumeration-started, identity, version-text, enumeration-ended, slot-captured, slot-counter, packet, command, kindOf, bodyOf, recordOf, eventOf, gatewayIn, saysOf}
 use Rattle.event_record.specs.Handed.{handed, framedHanded, recordHanded, recordBytes, laidIf}
 use Rattle.sound_record.specs.declared.Stands.the-variants.{Record, Nothing}
 use Rattle.event_record.specs.declared.Recorded.{Recorded}
 use Rattle.event_record.specs.declared.Recorded.the-variants.{Written, InvalidGateway, Unsound, NoRoom}
 use Rattle.sound_record.proofs.Places.{stands-within}
+use Rattle.event_record.proofs.Written.{drop-framed}
 
 -- 01, "Event record": enumeration ended at 0x1201: 00 04 01 04 12 01
 pub ended-1201 : recordOf written 0x1201 enumeration-ended ≡ 0x00 ∷ 0x04 ∷ 0x01 ∷ 0x04 ∷ 0x12 ∷ 0x01 ∷ []
-unfolding framed
+unfolding framed extra
 ended-1201 = refl
 
 -- any two answers of an encoder that hand back the same are the same
@@ -74,7 +75,7 @@ module _ (v : ℕ) where
 
     pub says-record : saysOf v (recordOf v g e) ≡ some e
     unfolding framed
-    says-record = event-body e
+    says-record = ap (eventOf v (kindOf e)) (drop-framed v (kindOf e) g (bodyOf v e)) ∙ event-body e
 
   -- so two events with the same record are the same, at the same gateway
   pub one-event : (g h : ℕ) (e f : Event) → recordOf v g e ≡ recordOf v h f → (g ≡ h) × (e ≡ f)

@@ -6,7 +6,7 @@ use mathlib.Core.List.{List, [], _∷_, _++_}
 use lib.ListN.{length, getD, take, drop}
 use lib.Dec.{eqb}
 use Rattle.laws.specs.Bytes.{be16, be16At}
-use Rattle.sound_record.specs.Record.{bodyStart, requestWidth, requestLength}
+use Rattle.sound_record.specs.Record.{kindAt, gatewayAt, bodyStart, requestWidth, requestLength}
 use Rattle.event_record.specs.Layout.{framed}
 
 -- 01, "Event record": kinds: 1 enumeration started; 2 identity, long address; 3 version text; 4 enumeration ended; 5 slot captured;
@@ -22,6 +22,7 @@ pub data Event : Type 0 where
   packet : List ℕ → Event
   command : ℕ → List ℕ → ℕ → List ℕ → Event
 
+-- the number of each kind in 01's list
 abbrev pub kindOf : Event → ℕ
 kindOf enumeration-started = 1
 kindOf (identity address) = 2
@@ -32,13 +33,15 @@ kindOf (slot-counter counter repeat) = 6
 kindOf (packet bytes) = 7
 kindOf (command asked request answered response) = 8
 
--- the length of a request payload, as version v writes it
+-- 01, "Event record": request payload length (1): as version v writes it
 abbrev pub countOf : ℕ → ℕ → List ℕ
 countOf v n = n ∷ []
 
+-- 01, "Event record": repeat mark (0 or 1): 1 if it is set
 abbrev pub markOf : Bool → ℕ
 markOf repeat = cond repeat 1 0
 
+-- the body of each kind: what 01's list names behind the kind, in its order; of kinds 1, 4 and 5 it names nothing
 abbrev pub bodyOf : ℕ → Event → List ℕ
 bodyOf v enumeration-started = []
 bodyOf v (identity address) = address
@@ -53,7 +56,7 @@ bodyOf v (command asked request answered response) = asked ∷ (countOf v (lengt
 abbrev pub recordOf : ℕ → ℕ → Event → List ℕ
 recordOf v gateway e = framed v (kindOf e) gateway (bodyOf v e)
 
--- what kind 8's body says
+-- what kind 8's body says: request type, request payload length, request payload, response type, response payload
 abbrev pub commandIn : ℕ → List ℕ → Event
 commandIn v body =
     let n = requestLength v body in
@@ -73,9 +76,10 @@ eventOf v kind body =
     (cond (eqb kind 8) (some (commandIn v body))
     none)))))))
 
--- what a record says: its gateway and its event
+-- the gateway that a record names: two bytes, big-endian, behind length, version and kind
 abbrev pub gatewayIn : List ℕ → ℕ
-gatewayIn r = be16At r 4
+gatewayIn r = be16At r gatewayAt
 
+-- the event that a record of version v says, by its kind and its body
 abbrev pub saysOf : ℕ → List ℕ → Option Event
-saysOf v r = eventOf v (getD r 3 0) (drop (bodyStart v) r)
+saysOf v r = eventOf v (getD r kindAt 0) (drop (bodyStart v) r)

@@ -13,6 +13,8 @@ use Rattle.event_record.specs.Event.{Event, kindOf, bodyOf}
 use Rattle.event_record.specs.declared.Recorded.{Recorded}
 use Rattle.event_record.specs.declared.Recorded.the-variants.{Written, InvalidGateway, Unsound, NoRoom}
 
+-- 01, "Numbers handed back", 13: gateway ID above 7fff; 41: event whose record would not be sound; 40: event record: room below its whole
+-- length; else how many bytes were written
 abbrev pub handed : Recorded → Handed ℕ
 handed (Written n) = value n
 handed InvalidGateway = refused 13
@@ -33,13 +35,15 @@ abbrev pub laidIf : Handed ℕ → List ℕ → List ℕ → List ℕ
 laidIf (refused n) xs out = out
 laidIf (value n) xs out = laidOver xs out
 
+-- the lent buffer afterwards: the record over its start, if it is accepted
 abbrev pub framedBytes : ℕ → ℕ → List ℕ → List ℕ → List ℕ
 framedBytes kind gateway body out =
     laidIf (framedHanded kind gateway body (length out)) (framed written kind gateway body) out
 
--- the same of an event
+-- what is handed back for an event: the same of its kind and body ..
 abbrev pub recordHanded : ℕ → Event → ℕ → Handed ℕ
 recordHanded gateway e room = framedHanded (kindOf e) gateway (bodyOf written e) room
 
+-- .. and the lent buffer afterwards
 abbrev pub recordBytes : ℕ → Event → List ℕ → List ℕ
 recordBytes gateway e out = framedBytes (kindOf e) gateway (bodyOf written e) out

@@ -4,11 +4,25 @@ ghost use Prim.Native.Nat.{_+_, _/_, _%_, _≤_};
 ghost use lib.ListN.{length};
 ghost use Rattle.laws.specs.Bytes.{laidOver};
 ghost use Rattle.sound_record.specs.Record.{written};
-ghost use Rattle.event_record.specs.Layout.{headOf, laidAt};
+ghost use Rattle.words.specs.Words.{copiedIn};
+ghost use Rattle.event_record.specs.Layout.{headOf};
 ghost use Rattle.event_record.specs.Event.{enumeration-started, identity, version-text, enumeration-ended, slot-captured, slot-counter, packet, command, markOf, bodyOf};
 ghost use Rattle.event_record.specs.Handed.{handed, framedHanded, framedBytes, recordHanded, recordBytes};
 use address::GatewayID;
+use address::ID_LIMIT;
+use sound_record::BODY_AT;
+use sound_record::VERSION;
 use sound_record::sound_body;
+use words::copy_in;
+
+// How many bytes of a record follow its length before the body: version, kind and gateway.
+const AHEAD: usize = 4;
+
+// Where the request payload of a command starts: behind the request's type and length.
+const REQUEST_AT: usize = 8;
+
+// How many bytes a command's record has beside its two payloads.
+const COMMAND_SIZE: usize = 9;
 
 // What an encoder gives: how many bytes it wrote, or the refusal 13, 41 or 40.
 pub enum Recorded {
@@ -32,21 +46,13 @@ fn low(n: u16) -> u8
     (n % 256) as u8
 }
 
-// Copies `s` into `d` from the place `at`.
-fn copy_in(d: &mut [u8], at: usize, s: &[u8])
-    requires { ⌜ at + length (now s) ≤ length (now d) ⌝ }
-    ensures { λ r. ⌜ now (d .exit) ≡ laidAt at (now (s .entry)) (now (d .entry)) ⌝ }
-{
-    bytes::copy(s, &mut d[at..]);
-}
-
 // Writes what stands before a body of `n` bytes.
 fn put_head(out: &mut [u8], kind: u8, gateway: u16, n: usize)
     requires { ⌜ (n ≤ 1025) × (6 ≤ length (now out)) ⌝ }
     ensures { λ r. ⌜ now (out .exit) ≡ laidOver (headOf written kind gateway n) (now (out .entry)) ⌝ }
 {
-    let m = (4 + n) as u16;
-    let head = [high(m), low(m), 1, kind, high(gateway), low(gateway)];
+    let m = (AHEAD + n) as u16;
+    let head = [high(m), low(m), VERSION, kind, high(gateway), low(gateway)];
     copy_in(out, 0, &head);
 }
 
@@ -56,19 +62,19 @@ fn write(out: &mut [u8], kind: u8, gateway: GatewayID, body: &[u8]) -> Recorded
     ensures bytes { λ r. ⌜ now (out .exit) ≡ framedBytes kind (gateway .0) (now (body .entry)) (now (out .entry)) ⌝ }
 {
     let g = gateway.0;
-    if 0x7fff < g {
+    if ID_LIMIT < g {
         return Recorded::InvalidGateway;
     }
     if !sound_body(kind, body) {
         return Recorded::Unsound;
     }
     let n = body.len();
-    if out.len() < 6 + n {
+    if out.len() < BODY_AT + n {
         return Recorded::NoRoom;
     }
     put_head(out, kind, g, n);
-    copy_in(out, 6, body);
-    Recorded::Written(6 + n)
+    copy_in(out, BODY_AT, body);
+    Recorded::Written(BODY_AT + n)
 }
 
 // Kind 1: enumeration started; the gateway is the one that the request names.
@@ -138,15 +144,15 @@ pub fn packet(out: &mut [u8], gateway: GatewayID, bytes: &[u8]) -> Recorded
 // Writes the body of a command, whose lengths fit, behind the six bytes before it.
 fn put_command(out: &mut [u8], asked: u8, request: &[u8], answered: u8, response: &[u8])
     requires { ⌜ (length (now request) ≤ 255) × (9 + length (now request) + length (now response) ≤ length (now out)) ⌝ }
-    ensures { λ r. ⌜ now (out .exit) ≡ laidAt 6 (bodyOf written (command asked (now (request .entry)) answered (now (response .entry)))) (now (out .entry)) ⌝ }
+    ensures { λ r. ⌜ now (out .exit) ≡ copiedIn (now (out .entry)) 6 (bodyOf written (command asked (now (request .entry)) answered (now (response .entry)))) ⌝ }
 {
     let n = request.len();
     let first = [asked, n as u8];
     let second = [answered];
-    copy_in(out, 6, &first);
-    copy_in(out, 8, request);
-    copy_in(out, 8 + n, &second);
-    copy_in(out, 9 + n, response);
+    copy_in(out, BODY_AT, &first);
+    copy_in(out, REQUEST_AT, request);
+    copy_in(out, REQUEST_AT + n, &second);
+    copy_in(out, COMMAND_SIZE + n, response);
 }
 
 // Kind 8: command: a request's type and payload, and its response's. Refused by 41 too if the request payload has more than 255 bytes.
@@ -162,7 +168,7 @@ pub fn command(
     ensures bytes { λ r. ⌜ now (out .exit) ≡ recordBytes (gateway .0) (command asked (now (request .entry)) answered (now (response .entry))) (now (out .entry)) ⌝ }
 {
     let id = gateway.0;
-    if 0x7fff < id {
+    if ID_LIMIT < id {
         return Recorded::InvalidGateway;
     }
     if 255 < request.len() {
@@ -175,10 +181,10 @@ pub fn command(
     if 1025 < size {
         return Recorded::Unsound;
     }
-    if out.len() < 6 + size {
+    if out.len() < BODY_AT + size {
         return Recorded::NoRoom;
     }
     put_head(out, 8, id, size);
     put_command(out, asked, request, answered, response);
-    Recorded::Written(6 + size)
+    Recorded::Written(BODY_AT + size)
 }

@@ -1,36 +1,12 @@
 // The frames of a block of bytes: each goes through the transport step, and its records, if a log is asked for, to the output.
 use address::Address;
+use console::Out;
 use event_record::Recorded;
-use libc::STDOUT_FILENO;
 use link_feed::lending::feed_from;
 use link_receive::Answer;
 
-// The room that a step's records are given: `answer-fits` of crates/records says that 512 bytes hold them.
+// The room that a step's records are given: `answer-fits` of crates/event_log says that 512 bytes hold them.
 const ROOM: usize = 1024;
-
-// Whether a log is written, and where its records end in the output.
-pub struct Log {
-    pub asked: bool,
-    pub at: usize,
-}
-
-// Writes what stands in `out` before a place.
-pub fn flush(out: &[u8], at: usize) {
-    if at <= out.len() {
-        io::write_all(STDOUT_FILENO, &out[..at]);
-    }
-}
-
-// A place with room for a step's records after it: the same one, or the start, once what stands before it is written.
-fn with_room(out: &[u8], at: usize) -> usize {
-    if at < out.len() {
-        if ROOM <= out.len() - at {
-            return at;
-        }
-    }
-    flush(out, at);
-    0
-}
 
 // Puts the records of an answer at a place, and gives the place after them.
 fn put_records(
@@ -44,7 +20,7 @@ fn put_records(
     if out.len() < at {
         return at;
     }
-    let r = records::write(&mut out[at..], cpayloads, address, payload, answer);
+    let r = event_log::write(&mut out[at..], cpayloads, address, payload, answer);
     match r {
         Recorded::Written(n) => at + n,
         Recorded::InvalidGateway => at,
@@ -53,23 +29,24 @@ fn put_records(
     }
 }
 
-// The log after the records of an answer; the same one, if none is asked for.
+// The output after the records of an answer; the same one, if no log is asked for.
 fn logged(
     out: &mut [u8],
-    log: Log,
+    o: Out,
+    asked: bool,
     cpayloads: &[u8; 15680],
     address: Address,
     payload: &[u8],
     answer: transport_receiver::Answer,
-) -> Log {
-    if !log.asked {
-        return log;
+) -> Out {
+    if !asked {
+        return o;
     }
-    let place = with_room(out, log.at);
-    let next = put_records(out, place, cpayloads, address, payload, answer);
-    Log {
-        asked: true,
+    let roomy = console::with_room(out, o, ROOM);
+    let next = put_records(out, roomy.at, cpayloads, address, payload, answer);
+    Out {
         at: next,
+        ok: roomy.ok,
     }
 }
 
@@ -87,8 +64,9 @@ fn take_answer(
     cpayloads: &mut [u8; 15680],
     counters: &mut [u64; 33],
     out: &mut [u8],
-    log: Log,
-) -> Log {
+    o: Out,
+    asked: bool,
+) -> Out {
     if let Answer::Frame {
         address,
         frame_type,
@@ -109,14 +87,14 @@ fn take_answer(
             frame_type,
             payload,
         );
-        return logged(out, log, cpayloads, address, payload, told);
+        return logged(out, o, asked, cpayloads, address, payload, told);
     }
-    log
+    o
 }
 
-// Feeds a block to its end, and takes its frames. Gives the log after them.
+// Feeds a block to its end and takes its frames. Gives the output after them, which still is to be written; a write that fails ends it.
 pub fn take_block(
-    place: &mut [u64; 10],
+    receiver: &mut [u64; 10],
     body: &mut [u8; 256],
     s: &[u8],
     nkeys: &mut [u32; 32],
@@ -129,13 +107,14 @@ pub fn take_block(
     cpayloads: &mut [u8; 15680],
     counters: &mut [u64; 33],
     out: &mut [u8],
-    mut log: Log,
-) -> Log {
+    asked: bool,
+) -> Out {
+    let mut o = Out { at: 0, ok: true };
     let mut i = 0;
     while i < s.len() {
-        let f = feed_from(place, body, s, i);
+        let f = feed_from(receiver, body, s, i);
         let answer = f.answer;
-        log = take_answer(
+        o = take_answer(
             body,
             answer,
             nkeys,
@@ -148,13 +127,14 @@ pub fn take_block(
             cpayloads,
             counters,
             out,
-            log,
+            o,
+            asked,
         );
         let next = f.at;
-        if next <= i {
-            return log;
+        if next <= i || !o.ok {
+            return o;
         }
         i = next;
     }
-    log
+    o
 }

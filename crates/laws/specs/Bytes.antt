@@ -7,7 +7,7 @@ use lib.ListN.{length, getD, drop}
 abbrev pub Bytes : List ℕ → Type 0
 Bytes xs = (i : ℕ) → getD xs i 0 < 256
 
--- a 16-bit check: what 01's theorems above the CRC hold for
+-- 01, "What comes over": all theorems above it hold for any 16-bit check: a function of bytes that gives 16 bits
 abbrev pub Check16 : (List ℕ → ℕ) → Type 0
 Check16 check = (xs : List ℕ) → Bytes xs → check xs < 2 ^ 16
 
@@ -27,6 +27,6 @@ of16 hi lo = hi * 256 + lo
 abbrev pub be16At : List ℕ → ℕ → ℕ
 be16At xs at = of16 (getD xs at 0) (getD xs (at + 1) 0)
 
--- a buffer with xs written over its start: just those bytes change
+-- 01, "Numbers handed back": an accepted encoding changes only the bytes written: a buffer with xs written over its start
 abbrev pub laidOver : List ℕ → List ℕ → List ℕ
 laidOver xs out = xs ++ drop (length xs) out

@@ -24,17 +24,19 @@ abbrev pub handed : {A : Type 0} → Length → A → Handed A
 handed Right a = value a
 handed Wrong a = refused 21
 
--- a payload of exactly so many bytes, and of so many or more
+-- a payload of exactly so many bytes, where 01 says "exactly"
 abbrev pub exactly : ℕ → List ℕ → Length
 exactly n payload = cond (eqb (length payload) n) Right Wrong
 
+-- a payload of so many bytes or more, where 01 gives a length alone
 abbrev pub atLeast : ℕ → List ℕ → Length
 atLeast n payload = cond (ltb (length payload) n) Wrong Right
 
--- 01, "Transport": command request 3 unknown, packet type, sequence (5)
+-- 01, "Transport": command request 3 unknown, packet type, sequence (5): its length ..
 abbrev pub commandRequestLength : ℕ
 commandRequestLength = 5
 
+-- .. and its fields
 abbrev pub commandRequestIn : List ℕ → CommandRequest
 commandRequestIn p =
     record {
@@ -43,10 +45,11 @@ commandRequestIn p =
       «sequence_number» = record { 0 = getD p 4 0 };
     }
 
--- command response unknown, buffers free, unknown, packet type, sequence (5)
+-- 01, "Transport": command response unknown, buffers free, unknown, packet type, sequence (5): its length ..
 abbrev pub commandResponseLength : ℕ
 commandResponseLength = 5
 
+-- .. and its fields
 abbrev pub commandResponseIn : List ℕ → CommandResponse
 commandResponseIn p =
     record {
@@ -57,10 +60,11 @@ commandResponseIn p =
       «command_sequence_number» = record { 0 = getD p 4 0 };
     }
 
--- receive request 2 unknown, packet number big-endian, 1 unknown (5, exactly)
+-- 01, "Transport": receive request 2 unknown, packet number big-endian, 1 unknown (5, exactly): its length ..
 abbrev pub receiveRequestLength : ℕ
 receiveRequestLength = 5
 
+-- .. and its fields
 abbrev pub receiveRequestIn : List ℕ → ReceiveRequest
 receiveRequestIn p =
     record {
@@ -69,13 +73,15 @@ receiveRequestIn p =
       «unknown_2» = getD p 4 0;
     }
 
--- identify and enumeration response long address (8) and gateway address (10, exactly)
+-- 01, "Transport": identify and enumeration response long address (8) and gateway address (10, exactly): the long address's length ..
 abbrev pub longAddressLength : ℕ
 longAddressLength = 8
 
+-- .. the response's length ..
 abbrev pub identifyResponseLength : ℕ
 identifyResponseLength = 10
 
+-- .. and its fields
 abbrev pub identifyResponseIn : List ℕ → IdentifyResponse
 identifyResponseIn p =
     record {
@@ -83,10 +89,11 @@ identifyResponseIn p =
       «gateway_address» = getD p 8 0 ∷ getD p 9 0 ∷ [];
     }
 
--- enumeration start 4 unknown and an address (6, exactly)
+-- 01, "Transport": enumeration start 4 unknown and an address (6, exactly): its length ..
 abbrev pub enumerationStartRequestLength : ℕ
 enumerationStartRequestLength = 6
 
+-- .. and its fields
 abbrev pub enumerationStartRequestIn : List ℕ → EnumerationStartRequest
 enumerationStartRequestIn p =
     record {
@@ -99,6 +106,7 @@ abbrev pub toGateway : Address → Named
 toGateway (To g) = Gateway g
 toGateway (From g) = FromAddress
 
+-- the same of an address's two bytes, big-endian
 unfoldable pub namedOf : List ℕ → Named
 namedOf address = toGateway (addressOf (be16At address 0))
 
@@ -109,22 +117,27 @@ handedNamed FromAddress = refused 28
 
 -- WHAT THE STEP READS, each from its layout
 
--- a command request's and a command response's packet type and sequence, and what follows them
+-- a command request's packet type ..
 abbrev pub requestType : List ℕ → ℕ
 requestType p = commandRequestIn p .«packet_type» .0
 
+-- .. its sequence ..
 abbrev pub requestSequence : List ℕ → ℕ
 requestSequence p = commandRequestIn p .«sequence_number» .0
 
+-- .. and what follows them, its payload in the sense of 01, "Event record": request payload
 abbrev pub requestData : List ℕ → List ℕ
 requestData p = drop commandRequestLength p
 
+-- a command response's packet type ..
 abbrev pub responseType : List ℕ → ℕ
 responseType p = commandResponseIn p .«packet_type» .0
 
+-- .. its sequence ..
 abbrev pub responseSequence : List ℕ → ℕ
 responseSequence p = commandResponseIn p .«command_sequence_number» .0
 
+-- .. and what follows them, 01's response payload
 abbrev pub responseData : List ℕ → List ℕ
 responseData p = drop commandResponseLength p
 

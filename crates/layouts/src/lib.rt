@@ -5,12 +5,10 @@ use address::Address;
 use address::GatewayID;
 use network::LongAddress;
 use network::PacketType;
+pub use transport::CommandSequenceNumber;
 use transport::PacketNumber;
 use words::be16;
 use words::byte_at;
-
-// The number that ties a command's response to its request.
-pub struct CommandSequenceNumber(pub u8);
 
 // Whether a payload has the length of its layout. A wrong one is refused by 21.
 pub enum Length {

@@ -1,13 +1,13 @@
--- A body of a frame, over any check: its length, its check's place, and the frame read back out of it. Assumes nothing.
+-- A body of a frame, over any check: its length, what is checked of it, and the frame read back out of it. Assumes nothing.
 use mathlib.Core.Path.{_≡_}
 use mathlib.Core.List.{List, [], _∷_, _++_}
 use mathlib.Core.Bool.{Bool, true, false, cond}
 use lib.Dec.{ltb}
-use Prim.Native.Nat.{ℕ, _+_, _-_, _/_, _%_, _^_, _≤_, _<_}
+use Prim.Native.Nat.{ℕ, _+_, _-_, _^_, _≤_, _<_}
 use native.Mathlib.Omega.{arith}
-use lib.ListN.{length, getD, take, drop, length-append}
-use lib.Seq.{take-at, drop-at, getD-append-add}
-use Rattle.laws.specs.Bytes.{Bytes, Check16, be16, le16, of16, laidOver}
+use lib.ListN.{length, take, drop, length-append}
+use lib.Seq.{take-at}
+use Rattle.laws.specs.Bytes.{Bytes, Check16, be16, le16, laidOver}
 use Rattle.laws.proofs.Bytes.{of16-be16, bytes-append, bytes-be16, bytes-le16}
 use Rattle.address.specs.Address.{idLimit, gatewayOf, numberOf}
 use Rattle.address.proofs.Laws.{addressOf-numberOf}
@@ -30,20 +30,11 @@ module _ (check : List ℕ → ℕ) (f : Frame) where
   pub length-bodyOf : length (bodyOf check f) ≡ length (f .payload) + 6
   length-bodyOf = simp length-append (omega arith)
 
-  pub length-bodyOf-le : length (f .payload) ≤ payloadLimit → length (bodyOf check f) ≤ bodyLimit
-  length-bodyOf-le h = omega (arith, length-bodyOf)
-
   -- the part of a buffer that a body was laid over
   pub body-taken : (d out : List ℕ) → d ≡ laidOver (bodyOf check f) out → take (length (f .payload) + 6) d ≡ bodyOf check f
   body-taken d out e = rw e (take-at (bodyOf check f) (drop (length (bodyOf check f)) out) (length (f .payload) + 6) length-bodyOf)
 
-  -- the last two bytes spell the check, little-endian
-  pub bodyOf-check : drop (length (bodyOf check f) - 2) (bodyOf check f) ≡ le16 (check (checkedOf f))
-  bodyOf-check =
-      let e : length (checkedOf f) ≡ length (bodyOf check f) - 2 = omega (arith, length-bodyOf, length-checkedOf) in
-      drop-at (checkedOf f) (le16 (check (checkedOf f))) (length (bodyOf check f) - 2) e
-
-  -- and what stands before them is what is checked
+  -- what stands before the last two bytes is what is checked
   pub bodyOf-checked : take (length (bodyOf check f) - 2) (bodyOf check f) ≡ checkedOf f
   bodyOf-checked =
       let e : length (checkedOf f) ≡ length (bodyOf check f) - 2 = omega (arith, length-bodyOf, length-checkedOf) in
@@ -51,26 +42,12 @@ module _ (check : List ℕ → ℕ) (f : Frame) where
 
   -- the frame that a body says is the one that it was made of
   pub frameOf-bodyOf : gatewayOf (f .address) ≤ idLimit → frameOf (bodyOf check f) ≡ f
-  frameOf-bodyOf h = rw (of16-be16 (numberOf (f .address)), addressOf-numberOf (f .address) h, of16-be16 (f .kind), bodyOf-checked)
-
-  -- the last two bytes one by one, and the number that they spell
-  pub getD-bodyOf-low : getD (bodyOf check f) (length (f .payload) + 4) 0 ≡ check (checkedOf f) % 256
-  getD-bodyOf-low =
-      let e : length (f .payload) + 4 ≡ length (checkedOf f) + 0 = omega arith in
-      rw e (getD-append-add (checkedOf f) (le16 (check (checkedOf f))) 0 0)
-
-  pub getD-bodyOf-high : getD (bodyOf check f) (length (f .payload) + 5) 0 ≡ check (checkedOf f) / 256
-  getD-bodyOf-high =
-      let e : length (f .payload) + 5 ≡ length (checkedOf f) + 1 = omega arith in
-      rw e (getD-append-add (checkedOf f) (le16 (check (checkedOf f))) 1 0)
-
-  pub bodyOf-check-value : of16 (getD (bodyOf check f) (length (f .payload) + 5) 0) (getD (bodyOf check f) (length (f .payload) + 4) 0) ≡ check (checkedOf f)
-  bodyOf-check-value = rw (getD-bodyOf-low, getD-bodyOf-high) (of16-be16 (check (checkedOf f)))
+  frameOf-bodyOf h = rw (of16-be16 (numberOf (f .address)), addressOf-numberOf (f .address) h, of16-be16 (f .frameType), bodyOf-checked)
 
   -- a body is a list of bytes
-  module _ (a : numberOf (f .address) < 2 ^ 16) (k : f .kind < 2 ^ 16) (p : Bytes (f .payload)) where
+  module _ (a : numberOf (f .address) < 2 ^ 16) (k : f .frameType < 2 ^ 16) (p : Bytes (f .payload)) where
     pub checkedOf-bytes : Bytes (checkedOf f)
-    checkedOf-bytes = bytes-append (be16 (numberOf (f .address))) (be16 (f .kind) ++ f .payload) (bytes-be16 (numberOf (f .address)) a) (bytes-append (be16 (f .kind)) (f .payload) (bytes-be16 (f .kind) k) p)
+    checkedOf-bytes = bytes-append (be16 (numberOf (f .address))) (be16 (f .frameType) ++ f .payload) (bytes-be16 (numberOf (f .address)) a) (bytes-append (be16 (f .frameType)) (f .payload) (bytes-be16 (f .frameType) k) p)
 
     pub bodyOf-bytes : Check16 check → Bytes (bodyOf check f)
     bodyOf-bytes h = bytes-append (checkedOf f) (le16 (check (checkedOf f))) checkedOf-bytes (bytes-le16 (check (checkedOf f)) (h (checkedOf f) checkedOf-bytes))

@@ -5,11 +5,13 @@ use Prim.Native.Nat.{ℕ, _+_, _-_, _/_, _%_, _≤_, _<_}
 use native.Mathlib.Nat.{zero-add}
 use native.Mathlib.Omega.{arith}
 use lib.ListN.{length, take, drop, length-append, length-drop, take-append-drop}
-use lib.Seq.{paste, take-length, take-at, drop-at, length-take-le}
+use lib.Seq.{paste, length-paste, take-length, take-at, drop-at, length-take-le}
 use borrow.Author.Tests.{lt-ltb, le-ltb}
 use Rattle.laws.specs.Bytes.{laidOver, be16, le16}
 use Rattle.laws.specs.Handed.{refused, value}
 use Rattle.laws.proofs.Lay.{laidOver-append, laidOver-paste, laidOver-take}
+use Rattle.words.specs.Words.{copiedIn}
+use Rattle.words.proofs.Laws.{copiedIn-fits, copiedIn-laidOver}
 use Rattle.address.specs.Address.{numberOf}
 use Rattle.escaping.specs.Escapes.{escaped}
 use Rattle.escaping.specs.Handed.{escapeBytes}
@@ -36,6 +38,14 @@ bracketed-escaped start w out h =
     rw (zero-add, take-length start, drop-at (take (length start) out) (laidOver w (drop (length start) out)) (length start) (length-take-le (length start) out h)) (laidOver-append start w out)
     in
     rw (p, ← length-append start w) (laidOver-paste (start ++ w) end out)
+
+-- two copies lay a start, and the end m bytes behind it
+pub bracketed-copies : (start out d₁ d₂ : List ℕ) (m : ℕ) → length start + m + 2 ≤ length out
+    → d₁ ≡ copiedIn out 0 start → d₂ ≡ copiedIn d₁ (length start + m) end → d₂ ≡ bracketed start m out
+bracketed-copies start out d₁ d₂ m h e₁ e₂ =
+    let l : length (paste out 0 start (length start)) ≡ length out = length-paste out 0 start (length start) (omega arith) (omega arith) in
+    let f : d₁ ≡ paste out 0 start (length start) = e₁ ∙ copiedIn-fits out 0 start (omega arith) in
+    e₂ ∙ rw f (copiedIn-fits (paste out 0 start (length start)) (length start + m) end (omega arith))
 
 -- the part of the buffer that is left for the escaped body, less two bytes for the end
 abbrev pub partOf : List ℕ → List ℕ → List ℕ
@@ -71,16 +81,17 @@ module _ (start body out last : List ℕ) (open₂ : length start + 2 ≤ length
 
 -- three copies lay the body over a buffer, whatever the check
 pub assembled : (check : List ℕ → ℕ) (f : Frame) (m : ℕ) (body d₁ d₂ d₃ : List ℕ) (c h₁ l₁ h₂ l₂ l₃ h₃ : ℕ)
-    → numberOf (f .address) ≡ m → h₁ ≡ m / 256 → l₁ ≡ m % 256 → h₂ ≡ f .kind / 256 → l₂ ≡ f .kind % 256
-    → d₁ ≡ paste body 0 (h₁ ∷ l₁ ∷ h₂ ∷ l₂ ∷ []) 4
-    → d₂ ≡ paste d₁ 4 (f .payload) (length (f .payload))
+    → length (f .payload) + 6 ≤ length body
+    → numberOf (f .address) ≡ m → h₁ ≡ m / 256 → l₁ ≡ m % 256 → h₂ ≡ f .frameType / 256 → l₂ ≡ f .frameType % 256
+    → d₁ ≡ copiedIn body 0 (h₁ ∷ l₁ ∷ h₂ ∷ l₂ ∷ [])
+    → d₂ ≡ copiedIn d₁ 4 (f .payload)
     → c ≡ check (take (length (f .payload) + 4) d₂) → l₃ ≡ c % 256 → h₃ ≡ c / 256
-    → d₃ ≡ paste d₂ (length (f .payload) + 4) (l₃ ∷ h₃ ∷ []) 2
+    → d₃ ≡ copiedIn d₂ (length (f .payload) + 4) (l₃ ∷ h₃ ∷ [])
     → d₃ ≡ laidOver (bodyOf check f) body
-assembled check f m body d₁ d₂ d₃ c h₁ l₁ h₂ l₂ l₃ h₃ num p₁ q₁ p₂ q₂ e₁ e₂ e q₃ p₃ e₃ =
-    let head : List ℕ = be16 (numberOf (f .address)) ++ be16 (f .kind) in
+assembled check f m body d₁ d₂ d₃ c h₁ l₁ h₂ l₂ l₃ h₃ fits num p₁ q₁ p₂ q₂ e₁ e₂ e q₃ p₃ e₃ =
+    let head : List ℕ = be16 (numberOf (f .address)) ++ be16 (f .frameType) in
     let n : length (checkedOf f) ≡ length (f .payload) + 4 = omega arith in
-    let g₁ : d₁ ≡ laidOver head body = e₁ ∙ rw (p₁, q₁, p₂, q₂, ← num) (laidOver-paste [] head body) in
-    let g₂ : d₂ ≡ laidOver (checkedOf f) body = e₂ ∙ rw g₁ (laidOver-paste head (f .payload) body) in
+    let g₁ : d₁ ≡ laidOver head body = e₁ ∙ rw (p₁, q₁, p₂, q₂, ← num) (copiedIn-laidOver [] head body (omega arith)) in
+    let g₂ : d₂ ≡ laidOver (checkedOf f) body = e₂ ∙ rw g₁ (copiedIn-laidOver head (f .payload) body (omega arith)) in
     let g : c ≡ check (checkedOf f) = e ∙ rw g₂ (ap check (take-at (checkedOf f) (drop (length (checkedOf f)) body) (length (f .payload) + 4) n)) in
-    e₃ ∙ rw (q₃, p₃, g, g₂, ← n) (laidOver-paste (checkedOf f) (le16 (check (checkedOf f))) body)
+    e₃ ∙ rw (q₃, p₃, g, g₂, ← n) (copiedIn-laidOver (checkedOf f) (le16 (check (checkedOf f))) body (omega arith))

@@ -13,6 +13,8 @@ use Rattle.link.specs.Wire.{Frame, end, payloadLimit, encodedOf}
 use Rattle.link.specs.declared.Encoded.{Encoded}
 use Rattle.link.specs.declared.Encoded.the-variants.{Written, InvalidID, TooLong, NoRoom}
 
+-- 01, "Numbers handed back", 13: gateway ID above 7fff; 10: encode: payload over 250; 11: encode: room below the exact length; else how many
+-- bytes were written
 abbrev pub handed : Encoded → Handed ℕ
 handed (Written n) = value n
 handed InvalidID = refused 13
@@ -23,7 +25,7 @@ handed NoRoom = refused 11
 abbrev pub writtenHanded : List ℕ → ℕ → Handed ℕ
 writtenHanded wire room = cond (ltb room (length wire)) (refused 11) (value (length wire))
 
--- 01: no refusal touches an output buffer. An accepted encoding changes only the bytes written
+-- 01, "Numbers handed back": no refusal touches an output buffer. An accepted encoding changes only the bytes written
 abbrev pub writtenBytes : List ℕ → List ℕ → List ℕ
 writtenBytes wire out = cond (ltb (length out) (length wire)) out (laidOver wire out)
 
@@ -33,23 +35,25 @@ bracketed start m out = paste (paste out 0 start (length start)) (length start +
 
 -- the frame of an address, a type and a payload
 abbrev pub frameFor : Address → ℕ → List ℕ → Frame
-frameFor a kind payload = record { address = a; kind = kind; payload = payload }
+frameFor a frameType payload = record { address = a; frameType = frameType; payload = payload }
 
 module _ (check : List ℕ → ℕ) where
-  -- 01, "Numbers handed back", 10: encode: payload over 250; then 11
+  -- 01, "Numbers handed back", 10: encode: payload over 250; then 11: of a frame whose gateway ID is at most 7fff
   unfoldable pub numberedHanded : Frame → ℕ → Handed ℕ
   numberedHanded f room = cond (ltb payloadLimit (length (f .payload))) (refused 10) (writtenHanded (encodedOf check f) room)
 
+  -- the lent bytes afterwards: a payload over 250 leaves them as they are
   unfoldable pub numberedBytes : Frame → List ℕ → List ℕ
   numberedBytes f out = cond (ltb payloadLimit (length (f .payload))) out (writtenBytes (encodedOf check f) out)
 
-  -- for encode 13, 10, 11
+  -- 01, "Numbers handed back": for encode 13, 10, 11
   unfoldable pub encodeHanded : Address → ℕ → List ℕ → ℕ → Handed ℕ
-  encodeHanded a kind payload room =
+  encodeHanded a frameType payload room =
       cond (ltb idLimit (gatewayOf a)) (refused 13)
-      (numberedHanded (frameFor a kind payload) room)
+      (numberedHanded (frameFor a frameType payload) room)
 
+  -- the lent bytes afterwards: a gateway ID above 7fff leaves them as they are
   unfoldable pub encodeBytes : Address → ℕ → List ℕ → List ℕ → List ℕ
-  encodeBytes a kind payload out =
+  encodeBytes a frameType payload out =
       cond (ltb idLimit (gatewayOf a)) out
-      (numberedBytes (frameFor a kind payload) out)
+      (numberedBytes (frameFor a frameType payload) out)

@@ -3,7 +3,6 @@ ghost use mathlib.Core.Path.{_≡_};
 ghost use mathlib.Core.List.{_++_};
 ghost use Prim.Native.Nat.{_+_, _/_, _%_, _≤_};
 ghost use lib.ListN.{length};
-ghost use lib.Seq.{paste};
 ghost use Rattle.laws.specs.Bytes.{laidOver};
 ghost use Rattle.crc.specs.Crc.{crcOf};
 ghost use Rattle.link.specs.Wire.{frameAt, startOf, wireOf, bodyOf, bodyLimit};
@@ -11,6 +10,7 @@ ghost use Rattle.link.specs.Handed.{handed, writtenHanded, writtenBytes,
 use address::Address;
 use address::Numbered;
 use escaping::Escaped;
+use words::copy_in;
 
 // A link layer frame type.
 pub struct Type(pub u16);
@@ -76,20 +76,12 @@ fn low(n: u16) -> u8
     (n % 256) as u8
 }
 
-// Copies `s` into `d` at a place where it fits.
-fn copy_in(d: &mut [u8], at: usize, s: &[u8])
-    requires { ⌜ at + length (now s) ≤ length (now d) ⌝ }
-    ensures { λ _. ⌜ now (d .exit) ≡ paste (now (d .entry)) at (now (s .entry)) (length (now (s .entry))) ⌝ }
-{
-    bytes::copy(s, &mut d[at..]);
-}
-
 // Lays address, type, payload and their check over the start of `body`.
-fn assemble(body: &mut [u8], number: u16, kind: u16, payload: &[u8])
+fn assemble(body: &mut [u8], number: u16, frame_type: u16, payload: &[u8])
     requires { ⌜ length (now payload) + 6 ≤ length (now body) ⌝ }
-    ensures { λ _. ⌜ now (body .exit) ≡ laidOver (bodyOf crcOf (frameAt number kind (now (payload .entry)))) (now (body .entry)) ⌝ }
+    ensures { λ _. ⌜ now (body .exit) ≡ laidOver (bodyOf crcOf (frameAt number «frame_type» (now (payload .entry)))) (now (body .entry)) ⌝ }
 {
-    let head = [high(number), low(number), high(kind), low(kind)];
+    let head = [high(number), low(number), high(frame_type), low(frame_type)];
     copy_in(body, 0, &head);
     copy_in(body, 4, payload);
     let n = payload.len() + 4;
@@ -146,16 +138,16 @@ fn write_body(number: u16, body: &[u8], out: &mut [u8]) -> Encoded
 }
 
 // `encode` for an address that is good, by its 16 bits.
-fn encode_numbered(number: u16, kind: u16, payload: &[u8], out: &mut [u8]) -> Encoded
-    ensures answer { λ r. ⌜ handed r ≡ numberedHanded crcOf (frameAt number kind (now (payload .entry))) (length (now (out .entry))) ⌝ }
-    ensures bytes { λ _. ⌜ now (out .exit) ≡ numberedBytes crcOf (frameAt number kind (now (payload .entry))) (now (out .entry)) ⌝ }
+fn encode_numbered(number: u16, frame_type: u16, payload: &[u8], out: &mut [u8]) -> Encoded
+    ensures answer { λ r. ⌜ handed r ≡ numberedHanded crcOf (frameAt number «frame_type» (now (payload .entry))) (length (now (out .entry))) ⌝ }
+    ensures bytes { λ _. ⌜ now (out .exit) ≡ numberedBytes crcOf (frameAt number «frame_type» (now (payload .entry))) (now (out .entry)) ⌝ }
 {
     let n = payload.len();
     if PAYLOAD_LIMIT < n {
         return Encoded::TooLong;
     }
     let mut body = [0u8; 256];
-    assemble(&mut body, number, kind, payload);
+    assemble(&mut body, number, frame_type, payload);
     let m = n + 6;
     write_body(number, &body[..m], out)
 }
@@ -165,9 +157,9 @@ pub fn encode(address: Address, frame_type: Type, payload: &[u8], out: &mut [u8]
     ensures answer { λ r. ⌜ handed r ≡ encodeHanded crcOf address («frame_type» .0) (now (payload .entry)) (length (now (out .entry))) ⌝ }
     ensures bytes { λ _. ⌜ now (out .exit) ≡ encodeBytes crcOf address («frame_type» .0) (now (payload .entry)) (now (out .entry)) ⌝ }
 {
-    let kind = frame_type.0;
+    let bits = frame_type.0;
     match address.to_u16() {
-        Numbered::Number(number) => encode_numbered(number, kind, payload, out),
+        Numbered::Number(number) => encode_numbered(number, bits, payload, out),
         Numbered::Invalid => Encoded::InvalidID,
     }
 }

@@ -10,7 +10,7 @@ use lib.Seq.{drop-drop, take-all}
 use lib.Dec.{ltb}
 use borrow.Author.Tests.{lt-ltb, le-ltb, ltb-true, ltb-false}
 use Rattle.link.specs.Wire as wire
-use Rattle.link_receive.specs.declared.State.{State}
+use Rattle.link_receive.specs.declared.State.the-variants as state
 use Rattle.link_receive.specs.declared.Move.{Move}
 use Rattle.link_receive.specs.declared.Move.the-variants.{To, Push, Count, Break, Close}
 use Rattle.link_receive.specs.declared.Parsed.{Parsed}
@@ -21,9 +21,10 @@ use Rattle.link_receive.specs.declared.Receiver.{Receiver}
 use Rattle.link_receive.specs.declared.Stepped.{Stepped}
 use Rattle.link_feed.specs.declared.Fed.{Fed}
 use Rattle.link_receive.specs.Frames.{handedOut}
-use Rattle.link_receive.specs.Step.{limit, turnOf, closedOf, parsedOf, movedOf, refusedOf, quiet, stepOf}
+use Rattle.link_receive.specs.Step.{rulesOf, tooLong, Within, turnOf, closedOf, parsedOf, movedOf, refusedOf, quiet, stepOf}
 use Rattle.link_feed.specs.Feed.{stopped, fedOn, feedFrom, feedOf}
 use Rattle.link_feed.specs.Drain.{framesFed, drainOf, framesOf, extendOf}
+use Rattle.link_receive.proofs.Rules.{rulesOf-made, rulesOf-step}
 use Rattle.link_receive.proofs.Turns.{turnOf-push}
 use Rattle.link_receive.proofs.Steps.{stepOf-within, stepOf-over}
 use Rattle.link_feed.proofs.Feeds.{feedOf-over, feedOf-within}
@@ -45,7 +46,7 @@ module _ (check : List ℕ → ℕ) where
 
   -- a step within the limit stays within it, keeps the array's size and is no refusal
   pub record Steady (r : Receiver) (x : Stepped) : Type 0 where
-    pub within : x .next .len ≤ limit
+    pub within : Within (x .next)
     pub sized : length (x .next .body) ≡ length (r .body)
     pub answers : x .answer ≡ Refused → ⊥
 
@@ -53,15 +54,15 @@ module _ (check : List ℕ → ℕ) where
   closedOf-steady r (Sound address t) = record { within = omega arith; sized = refl; answers = λ e. let z : _≡_ {A = ℕ} 0 1 = cc in omega arith }
   closedOf-steady r (Dropped x) = record { within = omega arith; sized = refl; answers = no-refusal }
 
-  movedOf-steady : (r : Receiver) (b : ℕ) (m : Move) → r .len ≤ limit → turnOf (r .state) (r .len) b ≡ m → Steady r (movedOf check r m)
-  movedOf-steady r b (To s) h e = record { within = h; sized = refl; answers = no-refusal }
-  movedOf-steady r b (Push d) h e = record { within = omega (arith, turnOf-push (r .state) (r .len) b d e); sized = simp length-set; answers = no-refusal }
+  movedOf-steady : (r : Receiver) (b : ℕ) (m : Move) → Within r → turnOf (rulesOf r) (r .state) (r .len) b ≡ m → Steady r (movedOf check r m)
+  movedOf-steady r b (To s) h e = record { within = rw (rulesOf-made r s (r .body) (r .len) (r .tallies)) h; sized = refl; answers = no-refusal }
+  movedOf-steady r b (Push d) h e = record { within = rw (rulesOf-made r state.Frame (set (r .body) (r .len) d) (r .len + 1) (r .tallies)) (omega (arith, turnOf-push (rulesOf r) (r .state) (r .len) b d e)); sized = simp length-set; answers = no-refusal }
   movedOf-steady r b (Count x s) h e = record { within = omega arith; sized = refl; answers = no-refusal }
   movedOf-steady r b Break h e = record { within = omega arith; sized = refl; answers = no-refusal }
   movedOf-steady r b Close h e = closedOf-steady r (parsedOf check (take (r .len) (r .body)))
 
-  pub stepOf-steady : (r : Receiver) (b : ℕ) → r .len ≤ limit → Steady r (stepOf check r b)
-  stepOf-steady r b h = rw (stepOf-within check r b _ h refl) (movedOf-steady r b (turnOf (r .state) (r .len) b) h refl)
+  pub stepOf-steady : (r : Receiver) (b : ℕ) → Within r → Steady r (stepOf check r b)
+  stepOf-steady r b h = rw (stepOf-within check r b _ h refl) (movedOf-steady r b (turnOf (rulesOf r) (r .state) (r .len) b) h refl)
 
   -- of a feeding under way with n bytes taken: k more are taken, and what is left of the run is the run from there
   record Then (r : Receiver) (s : List ℕ) (n : ℕ) (f : Fed) : Type 0 where
@@ -69,14 +70,14 @@ module _ (check : List ℕ → ℕ) where
     taken : f .taken ≡ n + more
     fits : more ≤ length s
     some : 0 < length s → 0 < more
-    within : f .next .len ≤ limit
+    within : Within (f .next)
     sized : length (f .next .body) ≡ length (r .body)
     all : f .answer ≡ Nothing → more ≡ length s
     answers : f .answer ≡ Refused → ⊥
     drained : drainOf check r s ≡ drainOf check (f .next) (drop more s)
     handed : framesOf check r s ≡ framesFed f ++ framesOf check (f .next) (drop more s)
 
-  module _ (r : Receiver) (b : ℕ) (bs : List ℕ) (n : ℕ) (h : r .len ≤ limit) where
+  module _ (r : Receiver) (b : ℕ) (bs : List ℕ) (n : ℕ) (h : Within r) where
     then-step : (a : Answer) → stepOf check r b .answer ≡ a → (g : Fed) → Then (stepOf check r b .next) bs (n + 1) g → Then r (b ∷ bs) n (fedOn a (stepOf check r b .next) n g)
     unfolding drainOf framesOf
     then-step Nothing e g i =
@@ -107,7 +108,7 @@ module _ (check : List ℕ → ℕ) where
         }
     then-step Refused e g i = absurd (stepOf-steady r b h .answers e)
 
-  then-feed : (s : List ℕ) (r : Receiver) (n : ℕ) → r .len ≤ limit → Then r s n (feedFrom check r s n)
+  then-feed : (s : List ℕ) (r : Receiver) (n : ℕ) → Within r → Then r s n (feedFrom check r s n)
   unfolding feedFrom drainOf framesOf
   then-feed [] r n h =
       record {
@@ -130,14 +131,14 @@ module _ (check : List ℕ → ℕ) where
   pub record Goes (r : Receiver) (s : List ℕ) (f : Fed) : Type 0 where
     pub fits : f .taken ≤ length s
     pub some : 0 < length s → 0 < f .taken
-    pub within : f .next .len ≤ limit
+    pub within : Within (f .next)
     pub sized : length (f .next .body) ≡ length (r .body)
     pub all : f .answer ≡ Nothing → f .taken ≡ length s
     pub answers : f .answer ≡ Refused → ⊥
     pub drained : drainOf check r s ≡ drainOf check (f .next) (drop (f .taken) s)
     pub handed : framesOf check r s ≡ framesFed f ++ framesOf check (f .next) (drop (f .taken) s)
 
-  pub feedOf-goes : (r : Receiver) (s : List ℕ) → r .len ≤ limit → Goes r s (feedOf check r s)
+  pub feedOf-goes : (r : Receiver) (s : List ℕ) → Within r → Goes r s (feedOf check r s)
   feedOf-goes r s h = rw (feedOf-within check r s h) (go (feedFrom check r s 0) (then-feed s r 0 h))
     where
       go : (f : Fed) → Then r s 0 f → Goes r s f
@@ -155,50 +156,63 @@ module _ (check : List ℕ → ℕ) where
           }
 
   -- the same of a feeding that counts from the slice's start
-  pub drainOf-from : (s : List ℕ) (r : Receiver) (i : ℕ) (f : Fed) → r .len ≤ limit → f ≡ feedFrom check r (drop i s) i → drainOf check r (drop i s) ≡ drainOf check (f .next) (drop (f .taken) s)
+  pub drainOf-from : (s : List ℕ) (r : Receiver) (i : ℕ) (f : Fed) → Within r → f ≡ feedFrom check r (drop i s) i → drainOf check r (drop i s) ≡ drainOf check (f .next) (drop (f .taken) s)
   drainOf-from s r i f h e =
       let j : Then r (drop i s) i f = rw e (then-feed (drop i s) r i h) in
       let k : f .taken ≡ i + j .more = j .taken in
       rw k (rw (drop-drop (j .more) i s) at (j .drained))
 
   -- over the limit nothing moves
-  pub drainOf-over : (s : List ℕ) (r : Receiver) → limit < r .len → drainOf check r s ≡ r
+  pub drainOf-over : (s : List ℕ) (r : Receiver) → rulesOf r .limit < r .len → drainOf check r s ≡ r
   unfolding drainOf
   drainOf-over [] r h = refl
   drainOf-over (b ∷ bs) r h = rw (stepOf-over check r b h) (drainOf-over bs r h)
 
-  pub framesOf-over : (s : List ℕ) (r : Receiver) → limit < r .len → framesOf check r s ≡ []
+  pub framesOf-over : (s : List ℕ) (r : Receiver) → rulesOf r .limit < r .len → framesOf check r s ≡ []
   unfolding framesOf
   framesOf-over [] r h = refl
   framesOf-over (b ∷ bs) r h = rw (stepOf-over check r b h) (framesOf-over bs r h)
 
   -- a feeding, and then the run of what it left, is the run; over the limit too
   pub drainOf-feed : (r : Receiver) (s : List ℕ) → drainOf check r s ≡ drainOf check (feedOf check r s .next) (drop (feedOf check r s .taken) s)
-  drainOf-feed r s = go (ltb limit (r .len)) refl
+  drainOf-feed r s = go (tooLong r) refl
     where
-      go : (x : Bool) → ltb limit (r .len) ≡ x → drainOf check r s ≡ drainOf check (feedOf check r s .next) (drop (feedOf check r s .taken) s)
-      go true e = rw (feedOf-over check r s (ltb-true limit (r .len) e))
-      go false e = feedOf-goes r s (ltb-false limit (r .len) e) .drained
+      go : (x : Bool) → tooLong r ≡ x → drainOf check r s ≡ drainOf check (feedOf check r s .next) (drop (feedOf check r s .taken) s)
+      go true e = rw (feedOf-over check r s (ltb-true (rulesOf r .limit) (r .len) e))
+      go false e = feedOf-goes r s (ltb-false (rulesOf r .limit) (r .len) e) .drained
 
   pub framesOf-feed : (r : Receiver) (s : List ℕ) → framesOf check r s ≡ framesFed (feedOf check r s) ++ framesOf check (feedOf check r s .next) (drop (feedOf check r s .taken) s)
-  framesOf-feed r s = go (ltb limit (r .len)) refl
+  framesOf-feed r s = go (tooLong r) refl
     where
-      go : (x : Bool) → ltb limit (r .len) ≡ x → framesOf check r s ≡ framesFed (feedOf check r s) ++ framesOf check (feedOf check r s .next) (drop (feedOf check r s .taken) s)
-      go true e = rw (feedOf-over check r s (ltb-true limit (r .len) e))
-      go false e = feedOf-goes r s (ltb-false limit (r .len) e) .handed
+      go : (x : Bool) → tooLong r ≡ x → framesOf check r s ≡ framesFed (feedOf check r s) ++ framesOf check (feedOf check r s .next) (drop (feedOf check r s .taken) s)
+      go true e = rw (feedOf-over check r s (ltb-true (rulesOf r .limit) (r .len) e))
+      go false e = feedOf-goes r s (ltb-false (rulesOf r .limit) (r .len) e) .handed
 
-  -- the drained run stays within the limit and keeps the array's size
-  pub drainOf-within : (s : List ℕ) (r : Receiver) → r .len ≤ limit → drainOf check r s .len ≤ limit
+  -- the drained run keeps the rules, stays within the limit and keeps the array's size
+  pub rulesOf-drain : (s : List ℕ) (r : Receiver) → rulesOf (drainOf check r s) ≡ rulesOf r
+  unfolding drainOf
+  rulesOf-drain [] r = refl
+  rulesOf-drain (b ∷ bs) r = rulesOf-drain bs (stepOf check r b .next) ∙ rulesOf-step check r b
+
+  pub drainOf-within : (s : List ℕ) (r : Receiver) → Within r → Within (drainOf check r s)
   unfolding drainOf
   drainOf-within [] r h = h
   drainOf-within (b ∷ bs) r h = drainOf-within bs (stepOf check r b .next) (stepOf-steady r b h .within)
 
-  pub drainOf-sized : (s : List ℕ) (r : Receiver) → r .len ≤ limit → length (drainOf check r s .body) ≡ length (r .body)
+  pub drainOf-sized : (s : List ℕ) (r : Receiver) → Within r → length (drainOf check r s .body) ≡ length (r .body)
   unfolding drainOf
   drainOf-sized [] r h = refl
   drainOf-sized (b ∷ bs) r h = drainOf-sized bs (stepOf check r b .next) (stepOf-steady r b h .within) ∙ stepOf-steady r b h .sized
 
   -- and so does a slice taken whole: the door of ledgers cites this
-  pub extendOf-within : (r : Receiver) (s : List ℕ) → r .len ≤ limit → extendOf check r s .next .len ≤ limit
+  pub rulesOf-extend : (r : Receiver) (s : List ℕ) → rulesOf (extendOf check r s .next) ≡ rulesOf r
   unfolding extendOf
-  extendOf-within r s h = rw (le-ltb limit (r .len) h) (drainOf-within s r h)
+  rulesOf-extend r s = go (tooLong r)
+    where
+      go : (x : Bool) → rulesOf (cond x (refusedOf r) (quiet (drainOf check r s)) .next) ≡ rulesOf r
+      go true = refl
+      go false = rulesOf-drain s r
+
+  pub extendOf-within : (r : Receiver) (s : List ℕ) → Within r → Within (extendOf check r s .next)
+  unfolding extendOf
+  extendOf-within r s h = rw (le-ltb (rulesOf r .limit) (r .len) h) (drainOf-within s r h)

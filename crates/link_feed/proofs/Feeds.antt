@@ -8,16 +8,10 @@ use lib.Seq.{drop-cons}
 use borrow.Author.Tests.{lt-ltb, le-ltb}
 use Rattle.address.specs.declared.Address.{Address}
 use Rattle.link.specs.declared.«Type».{«Type»}
-use Rattle.link_receive.specs.declared.State.{State}
-use Rattle.link_receive.specs.declared.Tallies.{Tallies}
 use Rattle.link_receive.specs.declared.Answer.the-variants.{Nothing, Frame, Refused}
 use Rattle.link_receive.specs.declared.Receiver.{Receiver}
-use Rattle.link_receive.specs.Step.{limit, quiet, stepOf}
+use Rattle.link_receive.specs.Step.{rulesOf, Within, quiet, stepOf}
 use Rattle.link_feed.specs.Feed.{stopped, feedFrom, feedOf}
-
--- the parts of a receiver, put together
-abbrev pub made : State → List ℕ → ℕ → Tallies → Receiver
-made state body len tallies = record { state = state; body = body; len = len; tallies = tallies }
 
 module _ (check : List ℕ → ℕ) where
   -- after a step that hands nothing out, feeding on from there is feeding from here: the loop of `feed` leans on this alone
@@ -40,10 +34,10 @@ module _ (check : List ℕ → ℕ) where
   unfolding feedFrom
   feedFrom-end r s i h = rw (drop-of-length-le s h)
 
-  pub feedOf-over : (r : Receiver) (s : List ℕ) → limit < r .len → feedOf check r s ≡ stopped r Refused 0
+  pub feedOf-over : (r : Receiver) (s : List ℕ) → rulesOf r .limit < r .len → feedOf check r s ≡ stopped r Refused 0
   unfolding feedOf
-  feedOf-over r s h = rw (lt-ltb limit (r .len) h)
+  feedOf-over r s h = rw (lt-ltb (rulesOf r .limit) (r .len) h)
 
-  pub feedOf-within : (r : Receiver) (s : List ℕ) → r .len ≤ limit → feedOf check r s ≡ feedFrom check r s 0
+  pub feedOf-within : (r : Receiver) (s : List ℕ) → Within r → feedOf check r s ≡ feedFrom check r s 0
   unfolding feedOf
-  feedOf-within r s h = rw (le-ltb limit (r .len) h)
+  feedOf-within r s h = rw (le-ltb (rulesOf r .limit) (r .len) h)

@@ -11,12 +11,13 @@ use Rattle.link_receive.specs.declared.Tallies.{Tallies}
 use Rattle.link_receive.specs.declared.Answer.{Answer}
 use Rattle.link_receive.specs.declared.Answer.the-variants.{Nothing, Frame, Refused}
 use Rattle.link_receive.specs.declared.Receiver.{Receiver}
-use Rattle.link_feed.specs.declared.Place.{Place}
+use Rattle.link_feed.specs.declared.Headway.{Headway}
 use Rattle.link_feed.specs.declared.Fed.{Fed}
-use Rattle.link_receive.specs.Step.{limit}
+use Rattle.link_receive.specs.Step.{room, madeOf, Within}
+use Rattle.link_receive.proofs.Rules.{rulesOf-made}
 use Rattle.link_feed.specs.Feed.{stopped, feedFrom}
 use Rattle.link_feed.specs.Drain.{drainOf}
-use Rattle.link_feed.specs.Advance.{madeOf, stopsAt, wentOf, Ahead, Onward}
+use Rattle.link_feed.specs.Advance.{stopsAt, wentOf, Ahead, Onward}
 use Rattle.link_feed.proofs.Feeds.{feedFrom-end}
 use Rattle.link_feed.proofs.Drains.{drainOf-from}
 
@@ -27,14 +28,14 @@ stopsAt-some (Frame address t n) stop h = refl
 stopsAt-some Refused stop h = refl
 
 module _ (check : List ℕ → ℕ) (s : List ℕ) where
-  module _ (r : Receiver) (i : ℕ) (h : r .len ≤ limit) (q : Receiver) (j : ℕ) where
+  module _ (r : Receiver) (i : ℕ) (h : Within r) (q : Receiver) (j : ℕ) where
     -- where feeding goes on as from here, the run does
-    drainOf-alike : q .len ≤ limit → feedFrom check q (drop j s) j ≡ feedFrom check r (drop i s) i → drainOf check q (drop j s) ≡ drainOf check r (drop i s)
+    drainOf-alike : Within q → feedFrom check q (drop j s) j ≡ feedFrom check r (drop i s) i → drainOf check q (drop j s) ≡ drainOf check r (drop i s)
     drainOf-alike l e =
         let f = feedFrom check r (drop i s) i in
         drainOf-from check s q j f l (sym e) ∙ sym (drainOf-from check s r i f h refl)
 
-    wentOf-alike : (stop : Bool) → q .len ≤ limit → feedFrom check q (drop j s) j ≡ feedFrom check r (drop i s) i → wentOf check stop q s j ≡ wentOf check stop r s i
+    wentOf-alike : (stop : Bool) → Within q → feedFrom check q (drop j s) j ≡ feedFrom check r (drop i s) i → wentOf check stop q s j ≡ wentOf check stop r s i
     wentOf-alike true l e = e
     wentOf-alike false l e = ap (λ (x : Receiver). stopped x Nothing (length s)) (drainOf-alike l e)
 
@@ -68,33 +69,34 @@ module _ (check : List ℕ → ℕ) (s : List ℕ) where
 
   -- a slice under way at i, which in the end gives f: the loop of `advance` keeps this
   pub record Going (stop : Bool) (f : Fed) (r : Receiver) (i : ℕ) : Type 0 where
-    pub placed : i ≤ length s
-    pub within : r .len ≤ limit
-    pub sized : length (r .body) ≡ limit
+    pub inside : i ≤ length s
+    pub within : Within r
+    pub sized : length (r .body) ≡ room
     pub same : wentOf check stop r s i ≡ f
 
   module _ (stop : Bool) (f : Fed) where
     pub going-ahead :
-        (state : State) (body : List ℕ) (len : ℕ) (t : Tallies) (i : ℕ) (next : List ℕ) (p : Place) →
-        Going stop f (madeOf state body len t) i → Ahead check state s body len i next p → length next ≡ length body →
-        Going stop f (madeOf state next (p .len) t) (p .at)
-    going-ahead state body len t i next p g a e =
+        (r : Receiver) (state : State) (body : List ℕ) (len : ℕ) (t : Tallies) (i : ℕ) (next : List ℕ) (p : Headway) →
+        Going stop f (madeOf r state body len t) i → Ahead check r state s body len i next p → length next ≡ length body →
+        Going stop f (madeOf r state next (p .len) t) (p .at)
+    going-ahead r state body len t i next p g a e =
+        let within : Within (madeOf r state next (p .len) t) = rw (rulesOf-made r state next (p .len) t) (a .within) in
         record {
-          placed = a .placed;
-          within = a .within;
+          inside = a .inside;
+          within = within;
           sized = e ∙ g .sized;
-          same = wentOf-alike (madeOf state body len t) i (g .within) (madeOf state next (p .len) t) (p .at) stop (a .within) (a .same t) ∙ g .same;
+          same = wentOf-alike (madeOf r state body len t) i (g .within) (madeOf r state next (p .len) t) (p .at) stop within (a .same t) ∙ g .same;
         }
 
     module _ (r : Receiver) (i : ℕ) (g : Going stop f r i) where
       pub going-ends : length s ≤ i → stopped r Nothing i ≡ f
-      going-ends h = wentOf-end stop r i (omega (arith, g .placed)) ∙ g .same
+      going-ends h = wentOf-end stop r i (omega (arith, g .inside)) ∙ g .same
 
       module _ (q : Receiver) (a : Answer) (j : ℕ) (o : Onward check s r i q a j) where
         pub going-onward : stopsAt a stop ≡ false → length (q .body) ≡ length (r .body) → Going stop f q j
         going-onward n e =
             record {
-              placed = o .placed;
+              inside = o .inside;
               within = o .within;
               sized = e ∙ g .sized;
               same = wentOf-onward r i (g .within) q j stop a n o ∙ g .same;

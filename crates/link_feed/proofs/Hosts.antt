@@ -4,7 +4,7 @@ use mathlib.Core.Bool.{Bool, true, false, cond}
 use Prim.Native.Nat.{ℕ, _+_, _≤_, _<_}
 use mathlib.Core.List.{List, [], _∷_, _++_, append-nil, append-assoc}
 use native.Mathlib.Omega.{arith}
-use lib.ListN.{length, getD, drop, length-drop, drop-of-length-le}
+use lib.ListN.{length, drop, drop-of-length-le}
 use lib.Seq.{drop-drop}
 use lib.Dec.{ltb}
 use borrow.Author.Tests.{lt-ltb, le-ltb, ltb-true, ltb-false}
@@ -14,19 +14,18 @@ use Rattle.link_receive.specs.declared.Receiver.{Receiver}
 use Rattle.link_receive.specs.declared.Stepped.{Stepped}
 use Rattle.link_receive.specs.declared.Tallies.{Tallies}
 use Rattle.link_receive.specs.Frames.{handedOut}
-use Rattle.link_receive.specs.Numbered.{receiverAt, placeOf}
-use Rattle.link_receive.specs.Step.{limit, quiet, stepOf}
-use Rattle.link_receive.proofs.Numbers.{receiverAt-placeOf}
+use Rattle.link_receive.specs.Numbered.{receiverAt}
+use Rattle.link_receive.specs.Step.{rulesOf, tooLong, quiet, stepOf}
 use Rattle.link_feed.specs.declared.Fed.{Fed}
 use Rattle.link_feed.specs.declared.FedIn.{FedIn}
 use Rattle.link_feed.specs.declared.Reached.{Reached}
 use Rattle.link_feed.specs.Feed.{stopped, feedOf}
 use Rattle.link_feed.specs.Drain.{framesFed, drainOf, framesOf, extendOf}
-use Rattle.link_feed.specs.Lent.{fedInOf, placeFed, startOf, reachedOf}
+use Rattle.link_feed.specs.Lent.{startOf}
 use Rattle.link_feed.specs.Tallies.{lentTo, Pushed, FedWith}
 use Rattle.link_feed.specs.Hosts.{Call, pushes, feeds, absorbs, feeds-in, feeds-from, pushes-lent, feeds-lent, handsOut, Hosted, used-up, calls, handing}
-use Rattle.link_feed.proofs.Feeds.{feedOf-over}
-use Rattle.link_feed.proofs.Drains.{drainOf-append, framesOf-append, drainOf-over, drainOf-feed, framesOf-feed}
+use Rattle.link_feed.proofs.Lent.{fed-back}
+use Rattle.link_feed.proofs.Drains.{rulesOf-drain, drainOf-append, framesOf-append, drainOf-over, drainOf-feed, framesOf-feed}
 
 module _ (check : List ℕ → ℕ) where
   -- what a call comes to: the run from where it leaves off is the run, and so are the frames, if it hands them out
@@ -46,13 +45,6 @@ module _ (check : List ℕ → ℕ) where
   unfolding drainOf framesOf
   stepped-on r b t = record { drained = refl; framed = λ _. refl }
 
-  -- a receiver fed as ten numbers and read back
-  pub read-again : (place body s : List ℕ) → receiverAt (placeFed place (feedOf check (receiverAt place body) s)) (feedOf check (receiverAt place body) s .next .body) ≡ feedOf check (receiverAt place body) s .next
-  read-again place body s =
-      by (ltb limit (getD place 1 0))
-      (λ e. rw (e, feedOf-over check (receiverAt place body) s (ltb-true limit (getD place 1 0) e)))
-      (λ e. rw e (receiverAt-placeOf (feedOf check (receiverAt place body) s .next)))
-
   -- a block from the place that a feeding reached on is what the feeding left of it
   left-of : (block : List ℕ) (at n : ℕ) → drop (startOf (length block) at + n) block ≡ drop n (drop at block)
   left-of block at n =
@@ -66,18 +58,18 @@ module _ (check : List ℕ → ℕ) where
   absorbed-on : (r : Receiver) (first t : List ℕ) → drainOf check r (first ++ t) ≡ drainOf check (extendOf check r first .next) t
   unfolding extendOf
   absorbed-on r first t =
-      by (ltb limit (r .len))
-      (λ e. rw e (drainOf-append check first t r ∙ rw (drainOf-over check first r (ltb-true limit (r .len) e))))
+      by (tooLong r)
+      (λ e. rw e (drainOf-append check first t r ∙ rw (drainOf-over check first r (ltb-true (rulesOf r .limit) (r .len) e))))
       (λ e. rw e (drainOf-append check first t r))
 
   call-goes : {r q : Receiver} {s t : List ℕ} {fs : List Frame} (c : Call check r s q t fs) → Goes-on r s q t fs (handsOut check c)
   call-goes {r} {t = t} (pushes b x d e f g) = rw (e, f, g, d) (stepped-on r b t)
   call-goes {r} (feeds first rest f d e g h i) = rw (e, g, h, i, d) (fed-on r first rest)
   call-goes {r} {t = t} (absorbs first x d e f g) = rw (e, f, d) (record { drained = absorbed-on r first t; framed = λ z. never z })
-  call-goes (feeds-in place body first rest after units f a b c d e g h i) =
-      rw (e, g, h, i, a, b, c, d, read-again place body first) (fed-on (receiverAt place body) first rest)
-  call-goes (feeds-from place body block rest after units at x a b c d e g h i) =
-      rw (e, g, h, i, a, b, c, d, read-again place body (drop at block), left-of block at (feedOf check (receiverAt place body) (drop at block) .taken)) (fed-on (receiverAt place body) (drop at block) rest)
+  call-goes (feeds-in numbers body first rest after units f a b c d e g h i) =
+      rw (e, g, h, i, a, b, c, d, fed-back check numbers body first) (fed-on (receiverAt numbers body) first rest)
+  call-goes (feeds-from numbers body block rest after units at x a b c d e g h i) =
+      rw (e, g, h, i, a, b, c, d, fed-back check numbers body (drop at block), left-of block at (feedOf check (receiverAt numbers body) (drop at block) .taken)) (fed-on (receiverAt numbers body) (drop at block) rest)
   call-goes {r} {t = t} (pushes-lent own u b x p e f g) = rw (e, f, g, p .lent, p .exactly) (stepped-on r b t)
   call-goes {r} (feeds-lent own u first rest f p e g h i) = rw (e, g, h, i, p .lent, p .exactly) (fed-on r first rest)
 
@@ -86,6 +78,10 @@ module _ (check : List ℕ → ℕ) where
   unfolding drainOf
   hosted-drain used-up = refl
   hosted-drain (calls c h e) = hosted-drain h ∙ sym (call-goes c .drained)
+
+  -- .. and keeps the rules ..
+  pub hosted-rules : {r q : Receiver} {s : List ℕ} {fs : List Frame} → Hosted check r s q fs → rulesOf q ≡ rulesOf r
+  hosted-rules {r} {s = s} h = ap rulesOf (hosted-drain h) ∙ rulesOf-drain check s r
 
   -- .. with its frames, where every call hands them out
   pub hosted-frames : {r q : Receiver} {s : List ℕ} {fs : List Frame} (h : Hosted check r s q fs) → handing check h ≡ true → fs ≡ framesOf check r s

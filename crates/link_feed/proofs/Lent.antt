@@ -15,32 +15,17 @@ use Rattle.link_receive.specs.declared.Answer.{Answer}
 use Rattle.link_receive.specs.declared.Answer.the-variants.{Nothing, Frame, Refused}
 use Rattle.link_receive.specs.declared.Tally.{Tally}
 use Rattle.link_receive.specs.declared.Tally.the-variants as tally
-use Rattle.link_receive.specs.Tally.{kindOf, raise, eightOf}
-use Rattle.link_receive.specs.Numbered.{talliesAt, tallyPlace, receiverAt, placeOf}
-use Rattle.link_receive.proofs.Numbers.{receiverAt-placeOf}
-use Rattle.link_receive.specs.Step.{limit}
+use Rattle.link_receive.specs.Tally.{counterOf, raise, eightOf}
+use Rattle.link_receive.specs.Numbered.{talliesAt, tallyIndex, receiverAt}
+use Rattle.link_receive.proofs.Numbers.{ten, receiverAt-numbersOf, tooLong-at}
+use Rattle.link_receive.specs.Step.{rulesOf, tooLong, Within}
 use Rattle.link_feed.specs.Feed.{feedOf}
-use Rattle.link_feed.specs.Lent.{placeFed, startOf, reachedOf}
+use Rattle.link_feed.specs.Lent.{numbersFed, startOf, reachedOf}
 use Rattle.link_feed.proofs.Feeds.{feedOf-over}
 use Rattle.link_feed.proofs.Drains.{feedOf-goes}
 
--- ten numbers, one by one
-pub ten : (l : List ℕ) → length l ≡ 10 → l ≡ getD l 0 0 ∷ getD l 1 0 ∷ getD l 2 0 ∷ getD l 3 0 ∷ getD l 4 0 ∷ getD l 5 0 ∷ getD l 6 0 ∷ getD l 7 0 ∷ getD l 8 0 ∷ getD l 9 0 ∷ []
-ten [] p = absurd (omega arith)
-ten (a ∷ []) p = absurd (omega arith)
-ten (a ∷ b ∷ []) p = absurd (omega arith)
-ten (a ∷ b ∷ c ∷ []) p = absurd (omega arith)
-ten (a ∷ b ∷ c ∷ d ∷ []) p = absurd (omega arith)
-ten (a ∷ b ∷ c ∷ d ∷ e ∷ []) p = absurd (omega arith)
-ten (a ∷ b ∷ c ∷ d ∷ e ∷ f ∷ []) p = absurd (omega arith)
-ten (a ∷ b ∷ c ∷ d ∷ e ∷ f ∷ g ∷ []) p = absurd (omega arith)
-ten (a ∷ b ∷ c ∷ d ∷ e ∷ f ∷ g ∷ h ∷ []) p = absurd (omega arith)
-ten (a ∷ b ∷ c ∷ d ∷ e ∷ f ∷ g ∷ h ∷ i ∷ []) p = absurd (omega arith)
-ten (a ∷ b ∷ c ∷ d ∷ e ∷ f ∷ g ∷ h ∷ i ∷ j ∷ []) p = refl
-ten (a ∷ b ∷ c ∷ d ∷ e ∷ f ∷ g ∷ h ∷ i ∷ j ∷ k ∷ ks) p = absurd (omega arith)
-
--- one of them raised
-pub talliesAt-raise : (l : List ℕ) (t : Tally) → length l ≡ 10 → talliesAt (set l (tallyPlace t) (raised (getD l (tallyPlace t) 0))) ≡ raise (kindOf t) (talliesAt l)
+-- one of ten numbers raised
+pub talliesAt-raise : (l : List ℕ) (t : Tally) → length l ≡ 10 → talliesAt (set l (tallyIndex t) (raised (getD l (tallyIndex t) 0))) ≡ raise (counterOf t) (talliesAt l)
 unfolding talliesAt
 talliesAt-raise l tally.Openings h = rw (ten l h)
 talliesAt-raise l tally.Frames h = rw (ten l h)
@@ -52,9 +37,9 @@ talliesAt-raise l tally.Broken h = rw (ten l h)
 talliesAt-raise l tally.Noise h = rw (ten l h)
 
 -- state and length written before them
-pub place-set : (l : List ℕ) (n m : ℕ) → length l ≡ 10 → set (set l 0 n) 1 m ≡ n ∷ m ∷ eightOf (talliesAt l)
+pub numbers-set : (l : List ℕ) (n m : ℕ) → length l ≡ 10 → set (set l 0 n) 1 m ≡ n ∷ m ∷ eightOf (talliesAt l)
 unfolding talliesAt
-place-set l n m h = rw (ten l h)
+numbers-set l n m h = rw (ten l h)
 
 -- a slice from where a feeding of it starts
 pub part-from : (s : List ℕ) (at : ℕ) → take (length s - startOf (length s) at) (drop (startOf (length s) at) s) ≡ drop at s
@@ -63,20 +48,20 @@ part-from s at =
     (λ e. rw e (take-all (length s - at) (drop at s) (omega (arith, length-drop at s))))
     (λ e. rw (e, drop-of-length-le s (ltb-false at (length s) e)) (take-all (length s - length s) (drop (length s) s) (omega (arith, length-drop (length s) s)) ∙ drop-of-length-le s {i = length s} (omega arith)))
 
-module _ (check : List ℕ → ℕ) (r : Receiver) where
-  -- a receiver put into ten numbers, fed and read back; 12 leaves them as they were
-  pub fed-back : (s : List ℕ) → receiverAt (placeFed (placeOf r) (feedOf check r s)) (feedOf check r s .next .body) ≡ feedOf check r s .next
-  fed-back s =
-      by (ltb limit (r .len))
-      (λ e. rw (e, feedOf-over check r s (ltb-true limit (r .len) e)) (receiverAt-placeOf r))
-      (λ e. rw e (receiverAt-placeOf (feedOf check r s .next)))
+-- Ten numbers and a body fed, and read back, are the receiver that they say, fed. 12 leaves them as they were.
+pub fed-back : (check : List ℕ → ℕ) (numbers body s : List ℕ) → receiverAt (numbersFed numbers (feedOf check (receiverAt numbers body) s)) (feedOf check (receiverAt numbers body) s .next .body) ≡ feedOf check (receiverAt numbers body) s .next
+fed-back check numbers body s =
+    by (tooLong (receiverAt numbers []))
+    (λ e. rw (e, feedOf-over check (receiverAt numbers body) s (ltb-true (rulesOf (receiverAt numbers body) .limit) (getD numbers 1 0) (tooLong-at numbers body ∙ e))))
+    (λ e. rw e (receiverAt-numbersOf (feedOf check (receiverAt numbers body) s .next)))
 
+module _ (check : List ℕ → ℕ) (r : Receiver) where
   -- no more is taken than there is
   pub feedOf-fits : (s : List ℕ) → feedOf check r s .taken ≤ length s
   feedOf-fits s =
-      by (ltb limit (r .len))
-      (λ e. rw (feedOf-over check r s (ltb-true limit (r .len) e)) (omega arith))
-      (λ e. feedOf-goes check r s (ltb-false limit (r .len) e) .fits)
+      by (tooLong r)
+      (λ e. rw (feedOf-over check r s (ltb-true (rulesOf r .limit) (r .len) e)) (omega arith))
+      (λ e. feedOf-goes check r s (ltb-false (rulesOf r .limit) (r .len) e) .fits)
 
   module _ (s : List ℕ) (at : ℕ) where
     abbrev f : Fed
@@ -90,7 +75,7 @@ module _ (check : List ℕ → ℕ) (r : Receiver) where
         (λ e. rw e (omega (arith, fits, length-drop at s, ltb-false at (length s) e)))
 
     -- a feeding from a place on reaches none past the slice's end, and, unless 12 refuses it, one that is further on
-    pub reached : (r .len ≤ limit → at < length s → at < reachedOf s at f .at) × (reachedOf s at f .at ≤ length s)
+    pub reached : (Within r → at < length s → at < reachedOf s at f .at) × (reachedOf s at f .at ≤ length s)
     reached = (
       (λ w h. let some = feedOf-goes check r (drop at s) w .some (omega (arith, length-drop at s)) in rw (lt-ltb at (length s) h) (omega arith)),
       starts,

@@ -1,4 +1,5 @@
--- Many bytes at once: where each of them leaves the state as it is, feeding on from behind them is feeding from here; over any check.
+-- Many bytes at once: where each of them leaves the state as it is, feeding on from behind them is feeding from here; over any check, and over the rules
+-- of any receiver o.
 -- Assumes nothing.
 use mathlib.Core.Path.{_≡_, refl, sym, ap, ap₂, _∙_, subst}
 use mathlib.Core.Bool.{Bool, true, false, cond, not, _&&_, _||_}
@@ -11,37 +12,39 @@ use lib.Dec.{eqb, ltb}
 use lib.ListN.{length, getD, set, take, drop, length-set}
 use lib.Seq.{paste}
 use borrow.Author.Tests.{eqb-true, not-true, lt-ltb, eq-eqb, ne-eqb}
-use Rattle.runs.specs.Runs.{isOf, lead, All, laid}
-use Rattle.runs.proofs.Laws.{run-placed, run-all, run-stops, copy-room, copy-placed, copy-all, length-laid, laid-paste}
-use Rattle.runs.specs.declared.Sort.the-variants as sort
+use Rattle.byte_runs.specs.Runs.{isOf, lead, All, laid}
+use Rattle.byte_runs.proofs.Laws.{run-inside, run-all, run-stops, copy-room, copy-inside, copy-all, length-laid, laid-paste}
+use Rattle.byte_runs.specs.declared.Sort.the-variants as sort
 use Rattle.laws.proofs.Cases.{by, never}
+use Rattle.reading.specs.Grammar.{Rules}
+use Rattle.link_receive.specs.declared.Receiver.{Receiver}
 use Rattle.link_receive.specs.declared.State.{State}
 use Rattle.link_receive.specs.declared.State.the-variants.{Idle, Noise, StartOfFrame, Frame, FrameEscape, Giant, GiantEscape}
 use Rattle.link_receive.specs.declared.Tally.the-variants as tally
 use Rattle.link_receive.specs.declared.Tallies.{Tallies}
 use Rattle.link_receive.specs.declared.Move.{Move}
 use Rattle.link_receive.specs.declared.Move.the-variants.{To, Push, Count}
-use Rattle.link_receive.specs.Step.{limit, outsideOf, turnOf}
+use Rattle.link_receive.specs.Step.{room, madeOf, rulesOf, outsideOf, turnOf}
 use Rattle.link_feed.specs.Feed.{feedFrom}
-use Rattle.link_feed.specs.declared.Place.{Place}
-use Rattle.link_feed.specs.Advance.{madeOf, halfAt, Ahead, Skipped}
+use Rattle.link_feed.specs.declared.Headway.{Headway}
+use Rattle.link_feed.specs.Advance.{halfAt, Ahead, Skipped}
 use Rattle.link_receive.proofs.Turns.{tailOf-other}
-use Rattle.link_receive.proofs.Steps.{stepOf-within}
+use Rattle.link_receive.proofs.Steps.{stepOf-made}
 use Rattle.link_feed.proofs.Feeds.{feedFrom-more}
 
 -- idle bytes leave Idle as it is
-pub turnOf-idle : (len b : ℕ) → isOf sort.Idle b ≡ true → turnOf Idle len b ≡ To Idle
+pub turnOf-idle : (rules : Rules) (len b : ℕ) → isOf sort.Idle b ≡ true → turnOf rules Idle len b ≡ To Idle
 unfolding isOf turnOf
-turnOf-idle len b e = go (eqb b 0x00) refl e
+turnOf-idle rules len b e = go (eqb b 0x00) refl e
   where
     go : (x : Bool) → eqb b 0x00 ≡ x → (x || eqb b 0xff) ≡ true → outsideOf (Count tally.Noise Noise) b ≡ To Idle
     go true f g = subst (λ (n : ℕ). outsideOf (Count tally.Noise Noise) n ≡ To Idle) (sym (eqb-true b 0x00 f)) refl
     go false f g = subst (λ (n : ℕ). outsideOf (Count tally.Noise Noise) n ≡ To Idle) (sym (eqb-true b 0xff g)) refl
 
 -- noise leaves Noise
-pub turnOf-noise : (len b : ℕ) → isOf sort.Noise b ≡ true → turnOf Noise len b ≡ To Noise
+pub turnOf-noise : (rules : Rules) (len b : ℕ) → isOf sort.Noise b ≡ true → turnOf rules Noise len b ≡ To Noise
 unfolding isOf turnOf
-turnOf-noise len b e = go (eqb b 0x7e) (eqb b 0x00) (eqb b 0xff) e
+turnOf-noise rules len b e = go (eqb b 0x7e) (eqb b 0x00) (eqb b 0xff) e
   where
     go : (x y z : Bool) → (not x && not (y || z)) ≡ true → cond x (To StartOfFrame) (cond y (To Idle) (cond z (To Idle) (To Noise))) ≡ To Noise
     go true y z g = never g
@@ -50,22 +53,22 @@ turnOf-noise len b e = go (eqb b 0x7e) (eqb b 0x00) (eqb b 0xff) e
     go false false false g = refl
 
 -- what is raw leaves the tail, and is a unit of a frame that has room
-pub turnOf-tail : (len b : ℕ) → isOf sort.Raw b ≡ true → turnOf Giant len b ≡ To Giant
+pub turnOf-tail : (rules : Rules) (len b : ℕ) → isOf sort.Raw b ≡ true → turnOf rules Giant len b ≡ To Giant
 unfolding isOf turnOf
-turnOf-tail len b e = rw (not-true (eqb b 0x7e) e)
+turnOf-tail rules len b e = rw (not-true (eqb b 0x7e) e)
 
 raw-other : (b : ℕ) → (b ≡ 0x7e → ⊥) → isOf sort.Raw b ≡ true
 unfolding isOf
 raw-other b e = rw (ne-eqb b 0x7e e)
 
-pub turnOf-unit : (len b : ℕ) → len < limit → isOf sort.Raw b ≡ true → turnOf Frame len b ≡ Push b
+pub turnOf-unit : (rules : Rules) (len b : ℕ) → len < rules .limit → isOf sort.Raw b ≡ true → turnOf rules Frame len b ≡ Push b
 unfolding isOf turnOf
-turnOf-unit len b h e = rw (not-true (eqb b 0x7e) e, lt-ltb len limit h)
+turnOf-unit rules len b h e = rw (not-true (eqb b 0x7e) e, lt-ltb len (rules .limit) h)
 
 -- 7e begins a pair
-turnOf-pair : (len b : ℕ) → b ≡ 0x7e → turnOf Frame len b ≡ To FrameEscape
+turnOf-pair : (rules : Rules) (len b : ℕ) → b ≡ 0x7e → turnOf rules Frame len b ≡ To FrameEscape
 unfolding turnOf
-turnOf-pair len b e = rw e
+turnOf-pair rules len b e = rw e
 
 -- where a tail stands, by whether it is within a pair
 abbrev tailState : Bool → State
@@ -73,10 +76,10 @@ tailState true = GiantEscape
 tailState false = Giant
 
 -- a byte that with a 7e before it neither opens nor closes a frame ends a pair, or begins one, or is skipped alone
-turnOf-calm : (h : Bool) (len b : ℕ) → isOf sort.Calm b ≡ true → turnOf (tailState h) len b ≡ To (tailState (not h && eqb b 0x7e))
+turnOf-calm : (rules : Rules) (h : Bool) (len b : ℕ) → isOf sort.Calm b ≡ true → turnOf rules (tailState h) len b ≡ To (tailState (not h && eqb b 0x7e))
 unfolding isOf turnOf
-turnOf-calm true len b e = sym (tailOf-other b (λ x. never (rw x at e)) (λ x. never (rw x at e)))
-turnOf-calm false len b e = by (eqb b 0x7e) (λ x. rw x) (λ x. rw x)
+turnOf-calm rules true len b e = sym (tailOf-other b (λ x. never (rw x at e)) (λ x. never (rw x at e)))
+turnOf-calm rules false len b e = by (eqb b 0x7e) (λ x. rw x) (λ x. rw x)
 
 -- 07 and 08 are no 7e
 not-calm : (b : ℕ) → isOf sort.Calm b ≡ false → b ≡ 0x7e → ⊥
@@ -122,8 +125,8 @@ module _ (s : List ℕ) (i q : ℕ) (h : i < q) where
   pub half-none : (getD s (q - 1) 0 ≡ 0x7e → ⊥) → halfAt s i (q - i) ≡ false
   half-none e = half-before ∙ ap (λ (t : Bool). not (halfAt s i (q - 1 - i)) && t) (ne-eqb _ _ e) ∙ and-false (not (halfAt s i (q - 1 - i)))
 
-abbrev pub placeOf : ℕ → ℕ → Place
-placeOf len i = record { len = len; at = i }
+abbrev pub headway : ℕ → ℕ → Headway
+headway len i = record { len = len; at = i }
 
 two : (i : ℕ) → i + 2 ≡ i + 1 + 1
 two i = omega arith
@@ -137,129 +140,129 @@ less m = omega arith
 more : (k m : ℕ) → k < m → k < suc m
 more k m h = omega arith
 
-module _ (check : List ℕ → ℕ) (s : List ℕ) where
+module _ (check : List ℕ → ℕ) (o : Receiver) (s : List ℕ) where
   -- bytes that leave the state
   pub feedFrom-stays :
-      (state : State) (p : ℕ → Bool) (len : ℕ) → ((b : ℕ) → p b ≡ true → turnOf state len b ≡ To state) → len ≤ limit →
+      (state : State) (p : ℕ → Bool) (len : ℕ) → ((b : ℕ) → p b ≡ true → turnOf (rulesOf o) state len b ≡ To state) → len ≤ rulesOf o .limit →
       (body : List ℕ) (t : Tallies) (i m : ℕ) → i + m ≤ length s → All p s i m →
-      feedFrom check (madeOf state body len t) (drop (i + m) s) (i + m) ≡ feedFrom check (madeOf state body len t) (drop i s) i
-  feedFrom-stays state p len turns h body t i zero g a = ap (λ (n : ℕ). feedFrom check (madeOf state body len t) (drop n s) n) (add-zero i)
+      feedFrom check (madeOf o state body len t) (drop (i + m) s) (i + m) ≡ feedFrom check (madeOf o state body len t) (drop i s) i
+  feedFrom-stays state p len turns h body t i zero g a = ap (λ (n : ℕ). feedFrom check (madeOf o state body len t) (drop n s) n) (add-zero i)
   feedFrom-stays state p len turns h body t i (suc m) g a =
-      let r = madeOf state body len t in
+      let r = madeOf o state body len t in
       ap (λ (n : ℕ). feedFrom check r (drop n s) n) (next i m)
-      ∙ feedFrom-more check r r s (i + m) (omega (arith, next i m)) (stepOf-within check r (getD s (i + m) 0) (To state) h (turns (getD s (i + m) 0) (a m (less m))))
+      ∙ feedFrom-more check r r s (i + m) (omega (arith, next i m)) (stepOf-made check o state body len t (getD s (i + m) 0) (To state) h (turns (getD s (i + m) 0) (a m (less m))))
       ∙ feedFrom-stays state p len turns h body t i m (omega (arith, next i m)) (λ k u. a k (more k m u))
 
   -- bytes of a tail that do not end it
   feedFrom-tail :
-      (body : List ℕ) (len : ℕ) (t : Tallies) → len ≤ limit → (i m : ℕ) → i + m ≤ length s → All (isOf sort.Calm) s i m →
-      feedFrom check (madeOf (tailState (halfAt s i m)) body len t) (drop (i + m) s) (i + m) ≡ feedFrom check (madeOf Giant body len t) (drop i s) i
-  feedFrom-tail body len t h i zero g a = ap (λ (n : ℕ). feedFrom check (madeOf Giant body len t) (drop n s) n) (add-zero i)
+      (body : List ℕ) (len : ℕ) (t : Tallies) → len ≤ rulesOf o .limit → (i m : ℕ) → i + m ≤ length s → All (isOf sort.Calm) s i m →
+      feedFrom check (madeOf o (tailState (halfAt s i m)) body len t) (drop (i + m) s) (i + m) ≡ feedFrom check (madeOf o Giant body len t) (drop i s) i
+  feedFrom-tail body len t h i zero g a = ap (λ (n : ℕ). feedFrom check (madeOf o Giant body len t) (drop n s) n) (add-zero i)
   feedFrom-tail body len t h i (suc m) g a =
       let x = halfAt s i m in
       let b = getD s (i + m) 0 in
-      let r = madeOf (tailState x) body len t in
-      let q = madeOf (tailState (not x && eqb b 0x7e)) body len t in
+      let r = madeOf o (tailState x) body len t in
+      let q = madeOf o (tailState (not x && eqb b 0x7e)) body len t in
       ap (λ (n : ℕ). feedFrom check q (drop n s) n) (next i m)
-      ∙ feedFrom-more check r q s (i + m) (omega (arith, next i m)) (stepOf-within check r b (To (tailState (not x && eqb b 0x7e))) h (turnOf-calm x len b (a m (less m))))
+      ∙ feedFrom-more check r q s (i + m) (omega (arith, next i m)) (stepOf-made check o (tailState x) body len t b (To (tailState (not x && eqb b 0x7e))) h (turnOf-calm (rulesOf o) x len b (a m (less m))))
       ∙ feedFrom-tail body len t h i m (omega (arith, next i m)) (λ k u. a k (more k m u))
 
   -- what the tail has skipped: nothing yet, a byte more, as much more as does not end it
-  pub skipped-none : (i : ℕ) → i ≤ length s → Skipped check s i i
-  skipped-none i h = record { placed = h; further = omega arith; same = λ body len t l. refl }
+  pub skipped-none : (i : ℕ) → i ≤ length s → Skipped check o s i i
+  skipped-none i h = record { inside = h; further = omega arith; same = λ body len t l. refl }
 
-  module _ (i₀ i : ℕ) (k : Skipped check s i₀ i) where
-    skipped-run : (m : ℕ) → i + m ≤ length s → All (isOf sort.Raw) s i m → Skipped check s i₀ (i + m)
+  module _ (i₀ i : ℕ) (k : Skipped check o s i₀ i) where
+    skipped-run : (m : ℕ) → i + m ≤ length s → All (isOf sort.Raw) s i m → Skipped check o s i₀ (i + m)
     skipped-run m h a =
         record {
-          placed = h;
+          inside = h;
           further = omega (arith, k .further);
-          same = λ body len t l. feedFrom-stays Giant (isOf sort.Raw) len (turnOf-tail len) l body t i m h a ∙ k .same body len t l;
+          same = λ body len t l. feedFrom-stays Giant (isOf sort.Raw) len (turnOf-tail (rulesOf o) len) l body t i m h a ∙ k .same body len t l;
         }
 
-    skipped-byte : i < length s → (getD s i 0 ≡ 0x7e → ⊥) → Skipped check s i₀ (i + 1)
+    skipped-byte : i < length s → (getD s i 0 ≡ 0x7e → ⊥) → Skipped check o s i₀ (i + 1)
     skipped-byte h e = skipped-run 1 (omega arith) (λ j u. let z : i + j ≡ i = omega arith in rw z (raw-other (getD s i 0) e))
 
-    skipped-tail : (m : ℕ) → i + m ≤ length s → All (isOf sort.Calm) s i m → halfAt s i m ≡ false → Skipped check s i₀ (i + m)
+    skipped-tail : (m : ℕ) → i + m ≤ length s → All (isOf sort.Calm) s i m → halfAt s i m ≡ false → Skipped check o s i₀ (i + m)
     skipped-tail m h a e =
         record {
-          placed = h;
+          inside = h;
           further = omega (arith, k .further);
-          same = λ body len t l. ap (λ (x : Bool). feedFrom check (madeOf (tailState x) body len t) (drop (i + m) s) (i + m)) (sym e) ∙ feedFrom-tail body len t l i m h a ∙ k .same body len t l;
+          same = λ body len t l. ap (λ (x : Bool). feedFrom check (madeOf o (tailState x) body len t) (drop (i + m) s) (i + m)) (sym e) ∙ feedFrom-tail body len t l i m h a ∙ k .same body len t l;
         }
 
     -- where a pair is begun, up to it
-    skipped-half : (m : ℕ) → i + m ≤ length s → All (isOf sort.Calm) s i m → halfAt s i m ≡ true → (1 ≤ m) × Skipped check s i₀ (i + m - 1)
+    skipped-half : (m : ℕ) → i + m ≤ length s → All (isOf sort.Calm) s i m → halfAt s i m ≡ true → (1 ≤ m) × Skipped check o s i₀ (i + m - 1)
     skipped-half zero h a e = never e
     skipped-half (suc m) h a e =
         let n : i + m ≡ i + suc m - 1 = omega (arith, next i m) in
-        (omega arith, subst (λ (j : ℕ). Skipped check s i₀ j) n (skipped-tail m (omega (arith, next i m)) (λ j u. a j (more j m u)) (not-first (halfAt s i m) (eqb (getD s (i + m) 0) 0x7e) e)))
+        (omega arith, subst (λ (j : ℕ). Skipped check o s i₀ j) n (skipped-tail m (omega (arith, next i m)) (λ j u. a j (more j m u)) (not-first (halfAt s i m) (eqb (getD s (i + m) 0) 0x7e) e)))
 
     -- a run of bytes that do not end the tail: within the slice; up to the pair that it ends in, if it does; else as a whole, and with the byte behind it
     module _ (m : ℕ) (e : m ≡ lead (isOf sort.Calm) (drop i s)) where
-      pub tail-placed : i + m ≤ length s
-      tail-placed = run-placed (isOf sort.Calm) s i m (k .placed) e
+      pub tail-inside : i + m ≤ length s
+      tail-inside = run-inside (isOf sort.Calm) s i m (k .inside) e
 
       all : All (isOf sort.Calm) s i m
-      all = run-all (isOf sort.Calm) s i m (k .placed) e
+      all = run-all (isOf sort.Calm) s i m (k .inside) e
 
       behind : i + m - i ≡ m
       behind = omega arith
 
-      pub tail-half : halfAt s i (i + m - i) ≡ true → (1 ≤ m) × Skipped check s i₀ (i + m - 1)
-      tail-half f = skipped-half m tail-placed all (ap (halfAt s i) (sym behind) ∙ f)
+      pub tail-half : halfAt s i (i + m - i) ≡ true → (1 ≤ m) × Skipped check o s i₀ (i + m - 1)
+      tail-half f = skipped-half m tail-inside all (ap (halfAt s i) (sym behind) ∙ f)
 
-      pub tail-whole : halfAt s i (i + m - i) ≡ false → Skipped check s i₀ (i + m)
-      tail-whole f = skipped-tail m tail-placed all (ap (halfAt s i) (sym behind) ∙ f)
+      pub tail-whole : halfAt s i (i + m - i) ≡ false → Skipped check o s i₀ (i + m)
+      tail-whole f = skipped-tail m tail-inside all (ap (halfAt s i) (sym behind) ∙ f)
 
-  module _ (i₀ i m : ℕ) (k : Skipped check s i₀ i) (e : m ≡ lead (isOf sort.Calm) (drop i s)) where
-    pub tail-past : halfAt s i (i + m - i) ≡ false → i + m < length s → Skipped check s i₀ (i + m + 1)
-    tail-past f h = skipped-byte i₀ (i + m) (tail-whole i₀ i k m e f) h (not-calm (getD s (i + m) 0) (run-stops (isOf sort.Calm) s i m (k .placed) e h))
+  module _ (i₀ i m : ℕ) (k : Skipped check o s i₀ i) (e : m ≡ lead (isOf sort.Calm) (drop i s)) where
+    pub tail-past : halfAt s i (i + m - i) ≡ false → i + m < length s → Skipped check o s i₀ (i + m + 1)
+    tail-past f h = skipped-byte i₀ (i + m) (tail-whole i₀ i k m e f) h (not-calm (getD s (i + m) 0) (run-stops (isOf sort.Calm) s i m (k .inside) e h))
 
   -- raw bytes of an open frame, as far as there is room
   pub feedFrom-units :
-      (body : List ℕ) (len : ℕ) (t : Tallies) (i m : ℕ) → len + m ≤ limit → i + m ≤ length s → All (isOf sort.Raw) s i m →
-      feedFrom check (madeOf Frame (laid body len s i m) (len + m) t) (drop (i + m) s) (i + m) ≡ feedFrom check (madeOf Frame body len t) (drop i s) i
+      (body : List ℕ) (len : ℕ) (t : Tallies) (i m : ℕ) → len + m ≤ rulesOf o .limit → i + m ≤ length s → All (isOf sort.Raw) s i m →
+      feedFrom check (madeOf o Frame (laid body len s i m) (len + m) t) (drop (i + m) s) (i + m) ≡ feedFrom check (madeOf o Frame body len t) (drop i s) i
   feedFrom-units body len t i zero h g a =
-      ap₂ (λ (l n : ℕ). feedFrom check (madeOf Frame body l t) (drop n s) n) (add-zero len) (add-zero i)
+      ap₂ (λ (l n : ℕ). feedFrom check (madeOf o Frame body l t) (drop n s) n) (add-zero len) (add-zero i)
   feedFrom-units body len t i (suc m) h g a =
-      let r = madeOf Frame (laid body len s i m) (len + m) t in
+      let r = madeOf o Frame (laid body len s i m) (len + m) t in
       let b = getD s (i + m) 0 in
-      let l : len + m < limit = omega (arith, next len m) in
-      ap₂ (λ (l n : ℕ). feedFrom check (madeOf Frame (laid body len s i (suc m)) l t) (drop n s) n) (next len m) (next i m)
-      ∙ feedFrom-more check r (madeOf Frame (set (laid body len s i m) (len + m) b) (len + m + 1) t) s (i + m) (omega (arith, next i m)) (stepOf-within check r b (Push b) (le-of-lt l) (turnOf-unit (len + m) b l (a m (less m))))
+      let l : len + m < rulesOf o .limit = omega (arith, next len m) in
+      ap₂ (λ (l n : ℕ). feedFrom check (madeOf o Frame (laid body len s i (suc m)) l t) (drop n s) n) (next len m) (next i m)
+      ∙ feedFrom-more check r (madeOf o Frame (set (laid body len s i m) (len + m) b) (len + m + 1) t) s (i + m) (omega (arith, next i m)) (stepOf-made check o Frame (laid body len s i m) (len + m) t b (Push b) (le-of-lt l) (turnOf-unit (rulesOf o) (len + m) b l (a m (less m))))
       ∙ feedFrom-units body len t i m (le-of-lt l) (omega (arith, next i m)) (λ k u. a k (more k m u))
 
   -- units of an open frame taken so far, from a body, a length and a place: the loop of `units` keeps this
-  pub record Held (body : List ℕ) (len i : ℕ) (next : List ℕ) (p : Place) : Type 0 where
-    pub ahead : Ahead check Frame s body len i next p
-    pub sized : length next ≡ limit
+  pub record Held (body : List ℕ) (len i : ℕ) (next : List ℕ) (p : Headway) : Type 0 where
+    pub ahead : Ahead check o Frame s body len i next p
+    pub sized : length next ≡ room
 
-  pub held-none : (body : List ℕ) (len i : ℕ) → len ≤ limit → length body ≡ limit → i ≤ length s → Held body len i body (placeOf len i)
-  held-none body len i h e g = record { ahead = record { placed = g; further = omega arith; within = h; same = λ t. refl }; sized = e }
+  pub held-none : (body : List ℕ) (len i : ℕ) → len ≤ rulesOf o .limit → length body ≡ room → i ≤ length s → Held body len i body (headway len i)
+  held-none body len i h e g = record { ahead = record { inside = g; further = omega arith; within = h; same = λ t. refl }; sized = e }
 
-  module _ (b₀ : List ℕ) (l₀ i₀ : ℕ) (body : List ℕ) (len i : ℕ) (held : Held b₀ l₀ i₀ body (placeOf len i)) where
-    -- a run of raw bytes more
+  module _ (b₀ : List ℕ) (l₀ i₀ : ℕ) (body : List ℕ) (len i : ℕ) (held : Held b₀ l₀ i₀ body (headway len i)) where
+    -- a run of raw bytes more, up to the array's end, where that is the limit
     pub held-run :
-        (next : List ℕ) (k : ℕ) → k ≡ lead (isOf sort.Raw) (take (length body - len) (drop i s)) → next ≡ paste body len (drop i s) k →
-        Held b₀ l₀ i₀ next (placeOf (len + k) (i + k))
-    held-run next k e f =
-        let room = length body - len in
-        let here : i ≤ length s = held .ahead .placed in
-        let fits : k ≤ room = copy-room (isOf sort.Raw) s i room k here e in
-        let placed : i + k ≤ length s = copy-placed (isOf sort.Raw) s i room k here e in
-        let within : len + k ≤ limit = omega (arith, held .sized, held .ahead .within) in
-        let laid-now : next ≡ laid body len s i k = f ∙ sym (laid-paste body len s i k (omega (arith, held .sized)) placed) in
+        rulesOf o .limit ≡ room → (next : List ℕ) (k : ℕ) → k ≡ lead (isOf sort.Raw) (take (length body - len) (drop i s)) → next ≡ paste body len (drop i s) k →
+        Held b₀ l₀ i₀ next (headway (len + k) (i + k))
+    held-run full next k e f =
+        let free = length body - len in
+        let here : i ≤ length s = held .ahead .inside in
+        let fits : k ≤ free = copy-room (isOf sort.Raw) s i free k here e in
+        let inside : i + k ≤ length s = copy-inside (isOf sort.Raw) s i free k here e in
+        let within : len + k ≤ rulesOf o .limit = omega (arith, held .sized, held .ahead .within) in
+        let laid-now : next ≡ laid body len s i k = f ∙ sym (laid-paste body len s i k (omega (arith, held .sized)) inside) in
         record {
           ahead =
               record {
-                placed = placed;
+                inside = inside;
                 further = omega (arith, held .ahead .further);
                 within = within;
                 same =
                     λ t.
-                    ap (λ (x : List ℕ). feedFrom check (madeOf Frame x (len + k) t) (drop (i + k) s) (i + k)) laid-now
-                    ∙ feedFrom-units body len t i k within placed (copy-all (isOf sort.Raw) s i room k here e)
+                    ap (λ (x : List ℕ). feedFrom check (madeOf o Frame x (len + k) t) (drop (i + k) s) (i + k)) laid-now
+                    ∙ feedFrom-units body len t i k within inside (copy-all (isOf sort.Raw) s i free k here e)
                     ∙ held .ahead .same t;
               };
           sized = ap length laid-now ∙ length-laid body len s i k ∙ held .sized;
@@ -267,22 +270,22 @@ module _ (check : List ℕ → ℕ) (s : List ℕ) where
 
     -- an escape more
     pub held-escape :
-        (d : ℕ) → i + 2 ≤ length s → len < limit → getD s i 0 ≡ 0x7e → turnOf FrameEscape len (getD s (i + 1) 0) ≡ Push d →
-        Held b₀ l₀ i₀ (set body len d) (placeOf (len + 1) (i + 2))
+        (d : ℕ) → i + 2 ≤ length s → len < rulesOf o .limit → getD s i 0 ≡ 0x7e → turnOf (rulesOf o) FrameEscape len (getD s (i + 1) 0) ≡ Push d →
+        Held b₀ l₀ i₀ (set body len d) (headway (len + 1) (i + 2))
     held-escape d g h e f =
         record {
           ahead =
               record {
-                placed = g;
+                inside = g;
                 further = omega (arith, held .ahead .further);
                 within = omega arith;
                 same =
                     λ t.
-                    let r = madeOf Frame body len t in
-                    let q = madeOf FrameEscape body len t in
-                    ap (λ (n : ℕ). feedFrom check (madeOf Frame (set body len d) (len + 1) t) (drop n s) n) (two i)
-                    ∙ feedFrom-more check q (madeOf Frame (set body len d) (len + 1) t) s (i + 1) (omega arith) (stepOf-within check q (getD s (i + 1) 0) (Push d) (le-of-lt h) f)
-                    ∙ feedFrom-more check r q s i (omega arith) (stepOf-within check r (getD s i 0) (To FrameEscape) (le-of-lt h) (turnOf-pair len (getD s i 0) e))
+                    let r = madeOf o Frame body len t in
+                    let q = madeOf o FrameEscape body len t in
+                    ap (λ (n : ℕ). feedFrom check (madeOf o Frame (set body len d) (len + 1) t) (drop n s) n) (two i)
+                    ∙ feedFrom-more check q (madeOf o Frame (set body len d) (len + 1) t) s (i + 1) (omega arith) (stepOf-made check o FrameEscape body len t (getD s (i + 1) 0) (Push d) (le-of-lt h) f)
+                    ∙ feedFrom-more check r q s i (omega arith) (stepOf-made check o Frame body len t (getD s i 0) (To FrameEscape) (le-of-lt h) (turnOf-pair (rulesOf o) len (getD s i 0) e))
                     ∙ held .ahead .same t;
               };
           sized = simp length-set (held .sized);

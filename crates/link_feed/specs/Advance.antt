@@ -1,4 +1,4 @@
--- How feeding goes on over the parts of a receiver, its body and tallies lent; over any check. Assumes nothing.
+-- How feeding goes on over the parts of a receiver, its body and tallies lent; over any check and the rules of any receiver o. Assumes nothing.
 use mathlib.Core.Path.{_≡_}
 use Prim.Native.Nat.{ℕ, zero, suc, _+_, _≤_, _<_}
 use mathlib.Core.Bool.{Bool, true, false, not, _&&_}
@@ -11,7 +11,7 @@ use Rattle.link_receive.specs.declared.Tallies.{Tallies}
 use Rattle.link_receive.specs.declared.Answer.{Answer}
 use Rattle.link_receive.specs.declared.Answer.the-variants as answer
 use Rattle.link_receive.specs.declared.Receiver.{Receiver}
-use Rattle.link_feed.specs.declared.Place.{Place}
+use Rattle.link_feed.specs.declared.Headway.{Headway}
 use Rattle.link_feed.specs.declared.Pair.{Pair}
 use Rattle.link_feed.specs.declared.Pair.the-variants.{Opener, Closer, Neither}
 use Rattle.link_feed.specs.declared.Stood.{Stood}
@@ -19,27 +19,29 @@ use Rattle.link_receive.specs.declared.Stepped.{Stepped}
 use Rattle.link_feed.specs.declared.Advanced.{Advanced}
 use Rattle.link_feed.specs.declared.Fed.{Fed}
 use Rattle.link_receive.specs.Numbered.{talliesAt}
-use Rattle.link_receive.specs.Step.{limit}
+use Rattle.link_receive.specs.Step.{freshOf, madeOf, rulesOf, Within}
 use Rattle.link_feed.specs.Feed.{stopped, feedFrom}
 use Rattle.link_feed.specs.Drain.{drainOf}
 
--- the parts put together
-abbrev pub madeOf : State → List ℕ → ℕ → Tallies → Receiver
-madeOf state body len tallies = record { state = state; body = body; len = len; tallies = tallies }
-
--- .. with the tallies among ten numbers
+-- the parts put together, with the tallies among ten numbers; all else is as in a fresh receiver
 abbrev pub heldOf : State → List ℕ → ℕ → List ℕ → Receiver
-heldOf state body len place = madeOf state body len (talliesAt place)
+heldOf state body len numbers = madeOf freshOf state body len (talliesAt numbers)
 
--- a step's end, and a feeding's, from the parts
+-- the most units that it may hold
+abbrev pub limit : ℕ
+limit = rulesOf freshOf .limit
+
+-- a step's end, from the parts
 abbrev pub steppedOf : State → List ℕ → ℕ → List ℕ → Answer → Stepped
-steppedOf state body len place a = record { next = heldOf state body len place; answer = a }
+steppedOf state body len numbers a = record { next = heldOf state body len numbers; answer = a }
 
+-- a byte's end, from what the code keeps of it
 abbrev pub stoodOf : Stood → List ℕ → List ℕ → Stepped
-stoodOf x body place = steppedOf (x .state) body (x .len) place (x .answer)
+stoodOf x body numbers = steppedOf (x .state) body (x .len) numbers (x .answer)
 
+-- a feeding's end, from what the code keeps of it
 abbrev pub fedOf : Advanced → List ℕ → List ℕ → Fed
-fedOf a body place = record { next = heldOf (a .state) body (a .len) place; answer = a .answer; taken = a .at }
+fedOf a body numbers = record { next = heldOf (a .state) body (a .len) numbers; answer = a .answer; taken = a .at }
 
 -- 7e and a code stand at a place
 pub record Stands (s : List ℕ) (i code : ℕ) : Type 0 where
@@ -71,19 +73,19 @@ module _ (check : List ℕ → ℕ) where
   wentOf false r s i = stopped (drainOf check r (drop i s)) answer.Nothing (length s)
 
   -- a place further on, from which feeding on is feeding from here: in the same state, with no tally raised
-  pub record Ahead (state : State) (s : List ℕ) (body : List ℕ) (len i : ℕ) (next : List ℕ) (p : Place) : Type 0 where
-    pub placed : p .at ≤ length s
+  pub record Ahead (o : Receiver) (state : State) (s : List ℕ) (body : List ℕ) (len i : ℕ) (next : List ℕ) (p : Headway) : Type 0 where
+    pub inside : p .at ≤ length s
     pub further : i ≤ p .at
-    pub within : p .len ≤ limit
-    pub same : (t : Tallies) → feedFrom check (madeOf state next (p .len) t) (drop (p .at) s) (p .at) ≡ feedFrom check (madeOf state body len t) (drop i s) i
+    pub within : p .len ≤ rulesOf o .limit
+    pub same : (t : Tallies) → feedFrom check (madeOf o state next (p .len) t) (drop (p .at) s) (p .at) ≡ feedFrom check (madeOf o state body len t) (drop i s) i
 
   -- the same in an overlong tail, whatever is held
-  pub record Skipped (s : List ℕ) (i j : ℕ) : Type 0 where
-    pub placed : j ≤ length s
+  pub record Skipped (o : Receiver) (s : List ℕ) (i j : ℕ) : Type 0 where
+    pub inside : j ≤ length s
     pub further : i ≤ j
     pub same :
-        (body : List ℕ) (len : ℕ) (t : Tallies) → len ≤ limit →
-        feedFrom check (madeOf Giant body len t) (drop j s) j ≡ feedFrom check (madeOf Giant body len t) (drop i s) i
+        (body : List ℕ) (len : ℕ) (t : Tallies) → len ≤ rulesOf o .limit →
+        feedFrom check (madeOf o Giant body len t) (drop j s) j ≡ feedFrom check (madeOf o Giant body len t) (drop i s) i
 
   -- how feeding ends that stands at a place with an answer: it goes on after none, and stops at any other
   abbrev pub fedBy : List ℕ → Answer → Receiver → ℕ → Fed
@@ -93,7 +95,7 @@ module _ (check : List ℕ → ℕ) where
 
   -- a receiver further on, and what it hands out, with which feeding ends as from here
   pub record Onward (s : List ℕ) (r : Receiver) (i : ℕ) (q : Receiver) (a : Answer) (j : ℕ) : Type 0 where
-    pub placed : j ≤ length s
+    pub inside : j ≤ length s
     pub further : i < j
-    pub within : q .len ≤ limit
+    pub within : Within q
     pub same : fedBy s a q j ≡ feedFrom check r (drop i s) i

@@ -2,13 +2,12 @@
 use Prim.Native.Nat.{ℕ}
 use mathlib.Core.Bool.{Bool, true, false, cond}
 use mathlib.Core.List.{List, [], _∷_, _++_}
-use lib.Dec.{ltb}
 use Rattle.link.specs.Wire.{Frame}
 use Rattle.link_receive.specs.declared.Receiver.{Receiver}
 use Rattle.link_receive.specs.declared.Stepped.{Stepped}
 use Rattle.link_feed.specs.declared.Fed.{Fed}
 use Rattle.link_receive.specs.Frames.{handedOut}
-use Rattle.link_receive.specs.Step.{limit, refusedOf, quiet, stepOf}
+use Rattle.link_receive.specs.Step.{tooLong, refusedOf, quiet, stepOf}
 
 -- what a feeding hands out
 abbrev pub framesFed : Fed → List Frame
@@ -27,4 +26,4 @@ module _ (check : List ℕ → ℕ) where
 
   -- a slice taken whole; 12 if the length is over the limit
   unfoldable pub extendOf : Receiver → List ℕ → Stepped
-  extendOf r s = cond (ltb limit (r .len)) (refusedOf r) (quiet (drainOf r s))
+  extendOf r s = cond (tooLong r) (refusedOf r) (quiet (drainOf r s))

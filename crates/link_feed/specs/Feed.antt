@@ -2,14 +2,13 @@
 use Prim.Native.Nat.{ℕ, _+_}
 use mathlib.Core.Bool.{Bool, true, false, cond}
 use mathlib.Core.List.{List, [], _∷_}
-use lib.Dec.{ltb}
 use Rattle.link_receive.specs.declared.Answer.{Answer}
 use Rattle.link_receive.specs.declared.Answer.the-variants.{Nothing, Frame, Refused}
 use Rattle.link_receive.specs.declared.Receiver.{Receiver}
 use Rattle.link_receive.specs.declared.Stepped.{Stepped}
 use Rattle.link_feed.specs.declared.Fed.{Fed}
 use Rattle.link_receive.specs.Frames.{refusedBy}
-use Rattle.link_receive.specs.Step.{limit, stepOf}
+use Rattle.link_receive.specs.Step.{tooLong, stepOf}
 
 -- stopped at an answer, with so many bytes taken
 abbrev pub stopped : Receiver → Answer → ℕ → Fed
@@ -29,4 +28,4 @@ module _ (check : List ℕ → ℕ) where
 
   -- 12 if its length is over the limit: nothing is taken, of an empty slice too
   unfoldable pub feedOf : Receiver → List ℕ → Fed
-  feedOf r s = cond (ltb limit (r .len)) (stopped r (refusedBy 12) 0) (feedFrom r s 0)
+  feedOf r s = cond (tooLong r) (stopped r (refusedBy 12) 0) (feedFrom r s 0)

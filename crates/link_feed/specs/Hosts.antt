@@ -16,7 +16,7 @@ use Rattle.link_feed.specs.declared.FedIn.{FedIn}
 use Rattle.link_feed.specs.declared.Reached.{Reached}
 use Rattle.link_feed.specs.Feed.{feedOf}
 use Rattle.link_feed.specs.Drain.{framesFed, extendOf}
-use Rattle.link_feed.specs.Lent.{fedInOf, placeFed, reachedOf}
+use Rattle.link_feed.specs.Lent.{fedInOf, numbersFed, reachedOf}
 use Rattle.link_feed.specs.Tallies.{lentTo, Pushed, FedWith}
 
 module _ (check : List ℕ → ℕ) where
@@ -31,11 +31,11 @@ module _ (check : List ℕ → ℕ) where
     absorbs : (first : List ℕ) (x : Stepped) → x ≡ extendOf check r first → s ≡ first ++ t → q ≡ x .next → fs ≡ [] → Call r s q t fs
     -- `feed_in`: the receiver is lent as ten numbers and its body
     feeds-in :
-        (place body first rest after units : List ℕ) (f : FedIn) →
-        r ≡ receiverAt place body →
-        f ≡ fedInOf (feedOf check (receiverAt place body) first) →
-        after ≡ placeFed place (feedOf check (receiverAt place body) first) →
-        units ≡ feedOf check (receiverAt place body) first .next .body →
+        (numbers body first rest after units : List ℕ) (f : FedIn) →
+        r ≡ receiverAt numbers body →
+        f ≡ fedInOf (feedOf check (receiverAt numbers body) first) →
+        after ≡ numbersFed numbers (feedOf check (receiverAt numbers body) first) →
+        units ≡ feedOf check (receiverAt numbers body) first .next .body →
         s ≡ first ++ rest →
         q ≡ receiverAt after units →
         t ≡ drop (f .taken) first ++ rest →
@@ -43,17 +43,17 @@ module _ (check : List ℕ → ℕ) where
         Call r s q t fs
     -- `feed_from`: the same from a place of a block on
     feeds-from :
-        (place body block rest after units : List ℕ) (at : ℕ) (x : Reached) →
-        r ≡ receiverAt place body →
-        x ≡ reachedOf block at (feedOf check (receiverAt place body) (drop at block)) →
-        after ≡ placeFed place (feedOf check (receiverAt place body) (drop at block)) →
-        units ≡ feedOf check (receiverAt place body) (drop at block) .next .body →
+        (numbers body block rest after units : List ℕ) (at : ℕ) (x : Reached) →
+        r ≡ receiverAt numbers body →
+        x ≡ reachedOf block at (feedOf check (receiverAt numbers body) (drop at block)) →
+        after ≡ numbersFed numbers (feedOf check (receiverAt numbers body) (drop at block)) →
+        units ≡ feedOf check (receiverAt numbers body) (drop at block) .next .body →
         s ≡ drop at block ++ rest →
         q ≡ receiverAt after units →
         t ≡ drop (x .at) block ++ rest →
         fs ≡ handedOut (x .answer) units →
         Call r s q t fs
-    -- `push_u8` and `feed` of crates/lent: the tallies that count are lent, and what stands in the receiver beside them (own) counts for nothing
+    -- `push_u8` and `feed` of crates/lent_tallies: the tallies that count are lent, and what stands in the receiver beside them (own) counts for nothing
     pushes-lent :
         (own u : Tallies) (b : ℕ) (x : Stepped) →
         Pushed check (r .tallies) (lentTo r own) b x u →
@@ -75,8 +75,8 @@ module _ (check : List ℕ → ℕ) where
   handsOut (pushes b x e f g h) = true
   handsOut (feeds first rest f d e g h i) = true
   handsOut (absorbs first x d e f g) = false
-  handsOut (feeds-in place body first rest after units f a b c d e g h i) = true
-  handsOut (feeds-from place body block rest after units at x a b c d e g h i) = true
+  handsOut (feeds-in numbers body first rest after units f a b c d e g h i) = true
+  handsOut (feeds-from numbers body block rest after units at x a b c d e g h i) = true
   handsOut (pushes-lent own u b x p e f g) = true
   handsOut (feeds-lent own u first rest f p e g h i) = true
 

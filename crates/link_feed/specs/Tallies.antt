@@ -5,13 +5,13 @@ use mathlib.Core.List.{List}
 use Rattle.link_receive.specs.declared.Receiver.{Receiver}
 use Rattle.link_receive.specs.declared.Stepped.{Stepped}
 use Rattle.link_receive.specs.declared.Tallies.{Tallies}
-use Rattle.link_receive.specs.Step.{stepOf}
+use Rattle.link_receive.specs.Step.{madeOf, stepOf}
 use Rattle.link_feed.specs.declared.Fed.{Fed}
 use Rattle.link_feed.specs.Feed.{feedOf}
 
 -- a receiver with lent tallies in the place of its own
 abbrev pub lentTo : Receiver → Tallies → Receiver
-lentTo r t = record { state = r .state; body = r .body; len = r .len; tallies = t }
+lentTo r t = madeOf r (r .state) (r .body) (r .len) t
 
 module _ (check : List ℕ → ℕ) where
   -- one byte with the lent tallies t, which become u: the step of the receiver with t in the place of its own tallies, and u are the tallies

@@ -4,15 +4,16 @@ ghost use mathlib.Core.Bool.{true};
 ghost use Prim.Native.Nat.{_<_, _≤_};
 ghost use lib.ListN.{length, take};
 ghost use Rattle.crc.specs.Crc.{crcOf};
-ghost use Rattle.link_receive.specs.Tally.{kindOf, raise};
-ghost use Rattle.link_receive.specs.Numbered.{tallyPlace, talliesAt};
-ghost use Rattle.link_receive.specs.Step.{limit, parsedOf, closedOf, stepOf};
-ghost use Rattle.link_feed.specs.Advance.{heldOf, steppedOf, stoodOf, fedOf, Ahead, Stands, Paired, Onward, stopsAt, wentOf};
+ghost use Rattle.link_receive.specs.Tally.{counterOf, raise};
+ghost use Rattle.link_receive.specs.Numbered.{numberCount, tallyIndex, talliesAt};
+ghost use Rattle.link_receive.specs.Step.{room, freshOf, parsedOf, closedOf, stepOf};
+ghost use Rattle.link_feed.specs.Advance.{heldOf, limit, steppedOf, stoodOf, fedOf, Ahead, Stands, Paired, Onward, stopsAt, wentOf};
 use crate::Advanced;
+use crate::Headway;
 use crate::Pair;
-use crate::Place;
 use crate::Stood;
 use crate::tails::tail;
+use byte_runs::Sort;
 use escaping::Unescaped;
 use link_receive::Answer;
 use link_receive::Move;
@@ -22,11 +23,10 @@ use link_receive::State;
 use link_receive::Tally;
 use link_receive::moves::parse_frame;
 use link_receive::moves::turn;
-use runs::Sort;
 
-// The place of a tally among the ten numbers.
-fn place_of(tally: Tally) -> usize
-    ensures { λ r. ⌜ (r ≡ tallyPlace tally) × (r < 10) ⌝ }
+// The index of a tally among the ten numbers.
+fn index_of(tally: Tally) -> usize
+    ensures { λ r. ⌜ (r ≡ tallyIndex tally) × (r < numberCount) ⌝ }
 {
     match tally {
         Tally::Openings => 2,
@@ -40,18 +40,18 @@ fn place_of(tally: Tally) -> usize
     }
 }
 
-// One more of a kind.
+// One more of a tally.
 fn raise(tallies: &mut [u64], tally: Tally)
-    requires { ⌜ length (now tallies) ≡ 10 ⌝ }
-    ensures { λ _. ⌜ talliesAt (now (tallies .exit)) ≡ raise (kindOf tally) (talliesAt (now (tallies .entry))) ⌝ }
+    requires { ⌜ length (now tallies) ≡ numberCount ⌝ }
+    ensures { λ _. ⌜ talliesAt (now (tallies .exit)) ≡ raise (counterOf tally) (talliesAt (now (tallies .entry))) ⌝ }
 {
-    let i = place_of(tally);
+    let i = index_of(tally);
     tallies[i] = std::num::wrapping_add_u64(tallies[i], 1);
 }
 
 // The open frame of `len` units closed, in whatever state the receiver is.
 fn close(tallies: &mut [u64], body: &[u8], len: usize) -> Answer
-    requires { ⌜ (length (now tallies) ≡ 10) × (len ≤ length (now body)) ⌝ }
+    requires { ⌜ (length (now tallies) ≡ numberCount) × (len ≤ length (now body)) ⌝ }
     ensures { λ r. ⌜ ((st : State) → steppedOf State.Idle (now (body .entry)) 0 (now (tallies .exit)) r ≡ closedOf (heldOf st (now (body .entry)) len (now (tallies .entry))) (parsedOf crcOf (take len (now (body .entry))))) ⌝ }
 {
     match parse_frame(&body[..len]) {
@@ -75,7 +75,7 @@ fn close(tallies: &mut [u64], body: &[u8], len: usize) -> Answer
 
 // One byte.
 fn one(state: State, len: usize, tallies: &mut [u64], body: &mut [u8], b: u8) -> Stood
-    requires { ⌜ (len ≤ limit) × (length (now body) ≡ limit) × (length (now tallies) ≡ 10) ⌝ }
+    requires { ⌜ (len ≤ limit) × (length (now body) ≡ room) × (length (now tallies) ≡ numberCount) ⌝ }
     ensures { λ r. ⌜ (stoodOf r (now (body .exit)) (now (tallies .exit)) ≡ stepOf crcOf (heldOf state (now (body .entry)) len (now (tallies .entry))) b) × (r .len ≤ limit) ⌝ }
 {
     match turn(state, len, b) {
@@ -121,14 +121,14 @@ fn one(state: State, len: usize, tallies: &mut [u64], body: &mut [u8], b: u8) ->
 }
 
 // The units of an open frame, raw and escaped, as far as there is room and the slice has them whole.
-fn units(len0: usize, body: &mut [u8], s: &[u8], i0: usize) -> Place
-    requires { ⌜ (len0 ≤ limit) × (length (now body) ≡ limit) × (i0 ≤ length (now s)) ⌝ }
-    ensures { λ r. ⌜ Ahead crcOf State.Frame (now (s .entry)) (now (body .entry)) len0 i0 (now (body .exit)) r ⌝ }
+fn units(len0: usize, body: &mut [u8], s: &[u8], i0: usize) -> Headway
+    requires { ⌜ (len0 ≤ limit) × (length (now body) ≡ room) × (i0 ≤ length (now s)) ⌝ }
+    ensures { λ r. ⌜ Ahead crcOf freshOf State.Frame (now (s .entry)) (now (body .entry)) len0 i0 (now (body .exit)) r ⌝ }
 {
     let mut len = len0;
     let mut i = i0;
     while i < s.len() {
-        let k = runs::copy_run(Sort::Raw, body, len, s, i);
+        let k = byte_runs::copy_run(Sort::Raw, body, len, s, i);
         len += k;
         i += k;
         if s.len() - i < 2 {
@@ -151,25 +151,25 @@ fn units(len0: usize, body: &mut [u8], s: &[u8], i0: usize) -> Place
             }
         }
     }
-    Place { len: len, at: i }
+    Headway { len: len, at: i }
 }
 
 // Many bytes at once, where all of them leave the state as it is: idle bytes, noise, what a tail skips, and units of an open frame.
-fn ahead(state: State, len: usize, body: &mut [u8], s: &[u8], i: usize) -> Place
-    requires { ⌜ (len ≤ limit) × (length (now body) ≡ limit) × (i ≤ length (now s)) ⌝ }
-    ensures { λ r. ⌜ Ahead crcOf state (now (s .entry)) (now (body .entry)) len i (now (body .exit)) r ⌝ }
+fn ahead(state: State, len: usize, body: &mut [u8], s: &[u8], i: usize) -> Headway
+    requires { ⌜ (len ≤ limit) × (length (now body) ≡ room) × (i ≤ length (now s)) ⌝ }
+    ensures { λ r. ⌜ Ahead crcOf freshOf state (now (s .entry)) (now (body .entry)) len i (now (body .exit)) r ⌝ }
 {
     match state {
         State::Idle => {
-            let k = runs::run(Sort::Idle, s, i);
-            Place {
+            let k = byte_runs::run(Sort::Idle, s, i);
+            Headway {
                 len: len,
                 at: i + k,
             }
         }
         State::Noise => {
-            let k = runs::run(Sort::Noise, s, i);
-            Place {
+            let k = byte_runs::run(Sort::Noise, s, i);
+            Headway {
                 len: len,
                 at: i + k,
             }
@@ -177,9 +177,9 @@ fn ahead(state: State, len: usize, body: &mut [u8], s: &[u8], i: usize) -> Place
         State::Frame => units(len, body, s, i),
         State::Giant => {
             let k = tail(s, i);
-            Place { len: len, at: k }
+            Headway { len: len, at: k }
         }
-        _ => Place { len: len, at: i },
+        _ => Headway { len: len, at: i },
     }
 }
 
@@ -228,7 +228,7 @@ fn onward(
     s: &[u8],
     i: usize,
 ) -> Advanced
-    requires { ⌜ (len ≤ limit) × (length (now body) ≡ limit) × (length (now tallies) ≡ 10) × (i < length (now s)) ⌝ }
+    requires { ⌜ (len ≤ limit) × (length (now body) ≡ room) × (length (now tallies) ≡ numberCount) × (i < length (now s)) ⌝ }
     ensures { λ r. ⌜ Onward crcOf (now (s .entry)) (heldOf state (now (body .entry)) len (now (tallies .entry))) i (heldOf (r .state) (now (body .exit)) (r .len) (now (tallies .exit))) (r .answer) (r .at) ⌝ }
 {
     match pair(state, s, i) {
@@ -284,7 +284,7 @@ pub fn advance(
     i0: usize,
     stop: bool,
 ) -> Advanced
-    requires { ⌜ (len0 ≤ limit) × (length (now body) ≡ limit) × (length (now tallies) ≡ 10) × (i0 ≤ length (now s)) ⌝ }
+    requires { ⌜ (len0 ≤ limit) × (length (now body) ≡ room) × (length (now tallies) ≡ numberCount) × (i0 ≤ length (now s)) ⌝ }
     ensures { λ r. ⌜ fedOf r (now (body .exit)) (now (tallies .exit)) ≡ wentOf crcOf stop (heldOf state0 (now (body .entry)) len0 (now (tallies .entry))) (now (s .entry)) i0 ⌝ }
 {
     let mut state = state0;

@@ -9,7 +9,7 @@ use link_receive::Answer;
 use link_receive::Receiver;
 use link_receive::State;
 use link_receive::Stepped;
-use link_receive::numbered::place_of;
+use link_receive::numbered::numbers_of;
 use link_receive::numbered::receiver_at;
 use link_receive::numbered::state_number;
 
@@ -37,7 +37,7 @@ pub struct Reached {
 }
 
 // How many units are held, and how many bytes of a slice were taken.
-struct Place {
+struct Headway {
     len: usize,
     at: usize,
 }
@@ -78,11 +78,11 @@ pub fn feed(r: Receiver, s: &[u8]) -> Fed
         };
     }
     let mut body = r.body;
-    let put = place_of(r);
-    let mut place = put.place;
-    let f = feed_in(&mut place, &mut body, s);
+    let put = numbers_of(r);
+    let mut numbers = put.numbers;
+    let f = feed_in(&mut numbers, &mut body, s);
     let answer = f.answer;
-    let next = receiver_at(place, body);
+    let next = receiver_at(numbers, body);
     Fed {
         next: next,
         answer: answer,
@@ -103,13 +103,13 @@ pub fn extend_from_slice(r: Receiver, s: &[u8]) -> Stepped
     }
     let state = r.state;
     let mut body = r.body;
-    let put = place_of(r);
-    let mut place = put.place;
-    let a = advance(state, len, &mut place, &mut body, s, 0, false);
+    let put = numbers_of(r);
+    let mut numbers = put.numbers;
+    let a = advance(state, len, &mut numbers, &mut body, s, 0, false);
     let last = a.state;
-    place[0] = state_number(last);
-    place[1] = a.len as u64;
-    let next = receiver_at(place, body);
+    numbers[0] = state_number(last);
+    numbers[1] = a.len as u64;
+    let next = receiver_at(numbers, body);
     Stepped {
         next: next,
         answer: Answer::Nothing,

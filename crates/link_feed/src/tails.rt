@@ -4,8 +4,9 @@ ghost use mathlib.Core.Path.{_≡_};
 ghost use Prim.Native.Nat.{_-_, _≤_};
 ghost use lib.ListN.{length};
 ghost use Rattle.crc.specs.Crc.{crcOf};
+ghost use Rattle.link_receive.specs.Step.{freshOf};
 ghost use Rattle.link_feed.specs.Advance.{halfAt, Skipped};
-use runs::Sort;
+use byte_runs::Sort;
 
 // Whether the bytes of a tail from i to j end within a pair: of a row of 7e before j every second one ends a pair, so an odd one is left.
 fn half(s: &[u8], i: usize, j: usize) -> bool
@@ -27,11 +28,11 @@ fn half(s: &[u8], i: usize, j: usize) -> bool
 // What an overlong tail skips, as far as the slice has it whole: all before the pair that opens or closes a frame.
 pub fn tail(s: &[u8], i0: usize) -> usize
     requires { ⌜ i0 ≤ length (now s) ⌝ }
-    ensures { λ r. ⌜ Skipped crcOf (now (s .entry)) i0 r ⌝ }
+    ensures { λ r. ⌜ Skipped crcOf freshOf (now (s .entry)) i0 r ⌝ }
 {
     let mut i = i0;
     while i < s.len() {
-        let k = runs::run(Sort::Calm, s, i);
+        let k = byte_runs::run(Sort::Calm, s, i);
         let j = i + k;
         if half(s, i, j) {
             return j - 1;

@@ -65,12 +65,12 @@ module _ (check : List ℕ → ℕ) where
       let s : List ℕ = take len body in
       let f = parsedOf-says s address t e in
       let p : addressOf (be16At s 0) ≡ address = cc in
-      let q : be16At s 2 ≡ t .0 = ap kindOf f in
+      let q : be16At s 2 ≡ t .0 = ap typeOf f in
       rw (p, ← q, payloadOf-body body len h (sound-units check body len address t h e))
     where
-      kindOf : Parsed → ℕ
-      kindOf (Sound address t) = t .0
-      kindOf (Dropped x) = 0
+      typeOf : Parsed → ℕ
+      typeOf (Sound address t) = t .0
+      typeOf (Dropped x) = 0
 
 -- the three parts that `payload` gives: of a body under four bytes, up to the body's end, and a whole one
 module _ (body : List ℕ) (len : ℕ) where

@@ -1,3 +1,4 @@
+pub mod Rules
 pub mod Turns
 pub mod Steps
 pub mod Frames

@@ -15,17 +15,29 @@ use Rattle.link_receive.specs.declared.Tally.the-variants as tally
 use Rattle.link_receive.specs.declared.Parsed.{Parsed}
 use Rattle.link_receive.specs.declared.Parsed.the-variants.{Sound, Dropped}
 use Rattle.link_receive.specs.declared.Move.{Move}
+use Rattle.link_receive.specs.declared.State.{State}
+use Rattle.link_receive.specs.declared.Tallies.{Tallies}
 use Rattle.link_receive.specs.declared.Receiver.{Receiver}
-use Rattle.link_receive.specs.Step.{limit, turnOf, judgedOf, parsedOf, movedOf, refusedOf, stepOf}
+use Rattle.link_receive.proofs.Rules.{rulesOf-made}
+use Rattle.link_receive.specs.Step.{rulesOf, Within, madeOf, turnOf, judgedOf, parsedOf, movedOf, refusedOf, stepOf}
 
 module _ (check : List ℕ → ℕ) where
-  pub stepOf-within : (r : Receiver) (b : ℕ) (m : Move) → r .len ≤ limit → turnOf (r .state) (r .len) b ≡ m → stepOf check r b ≡ movedOf check r m
+  pub stepOf-within : (r : Receiver) (b : ℕ) (m : Move) → Within r → turnOf (rulesOf r) (r .state) (r .len) b ≡ m → stepOf check r b ≡ movedOf check r m
   unfolding stepOf
-  stepOf-within r b m h e = rw (e, le-ltb limit (r .len) h)
+  stepOf-within r b m h e = rw (e, le-ltb (rulesOf r .limit) (r .len) h)
 
-  pub stepOf-over : (r : Receiver) (b : ℕ) → limit < r .len → stepOf check r b ≡ refusedOf r
+  pub stepOf-over : (r : Receiver) (b : ℕ) → rulesOf r .limit < r .len → stepOf check r b ≡ refusedOf r
   unfolding stepOf
-  stepOf-over r b h = rw (lt-ltb limit (r .len) h)
+  stepOf-over r b h = rw (lt-ltb (rulesOf r .limit) (r .len) h)
+
+  -- the same of a receiver with other parts, by the rules that it has from r
+  module _ (r : Receiver) (state : State) (body : List ℕ) (len : ℕ) (t : Tallies) where
+    pub stepOf-made :
+        (b : ℕ) (m : Move) → len ≤ rulesOf r .limit → turnOf (rulesOf r) state len b ≡ m →
+        stepOf check (madeOf r state body len t) b ≡ movedOf check (madeOf r state body len t) m
+    stepOf-made b m h e =
+        let same = rulesOf-made r state body len t in
+        stepOf-within (madeOf r state body len t) b m (rw same h) (rw same e)
 
   judged-sound : (v : Verdict) (s : List ℕ) (address : Address) (t : «Type») → judgedOf v s ≡ Sound address t → v ≡ sound
   judged-sound runt s address t e = cc

@@ -31,5 +31,5 @@ payloadOf n body = take n (drop 4 body)
 -- the frames that an answer hands out beside a body: none, or one
 abbrev pub handedOut : Answer → List ℕ → List wire.Frame
 handedOut Nothing body = []
-handedOut (Frame address t n) body = record { address = address; kind = t .0; payload = payloadOf n body } ∷ []
+handedOut (Frame address t n) body = record { address = address; frameType = t .0; payload = payloadOf n body } ∷ []
 handedOut Refused body = []

@@ -3,7 +3,7 @@ use Prim.Native.Nat.{ℕ}
 use mathlib.Core.Bool.{cond}
 use mathlib.Core.List.{List, [], _∷_}
 use lib.ListN.{getD, replicate}
-use lib.Dec.{eqb, ltb}
+use lib.Dec.{eqb}
 use Rattle.link_receive.specs.declared.State.{State}
 use Rattle.link_receive.specs.declared.State.the-variants.{Idle, Noise, StartOfFrame, Frame, FrameEscape, Giant, GiantEscape}
 use Rattle.link_receive.specs.declared.Receiver.{Receiver}
@@ -11,10 +11,14 @@ use Rattle.link_receive.specs.declared.Tallies.{Tallies}
 use Rattle.link_receive.specs.declared.Tally.{Tally}
 use Rattle.link_receive.specs.declared.Tally.the-variants as tally
 use Rattle.link_receive.specs.declared.Answer.the-variants.{Nothing}
-use Rattle.link_receive.specs.declared.numbered.Placed.{Placed}
+use Rattle.link_receive.specs.declared.numbered.Numbers.{Numbers}
 use Rattle.link_receive.specs.Tally.{eightOf}
 use Rattle.link_receive.specs.Frames.{refusedBy}
-use Rattle.link_receive.specs.Step.{limit}
+use Rattle.link_receive.specs.Step.{freshOf, madeOf, tooLong}
+
+-- how many numbers there are
+abbrev pub numberCount : ℕ
+numberCount = 10
 
 -- the states by their numbers; any number above 5 stands for the last
 unfoldable pub stateAt : ℕ → State
@@ -26,6 +30,7 @@ stateAt n =
     (cond (eqb n 4) FrameEscape
     (cond (eqb n 5) Giant GiantEscape)))))
 
+-- the number of a state
 abbrev pub stateNumber : State → ℕ
 stateNumber Idle = 0
 stateNumber Noise = 1
@@ -35,39 +40,41 @@ stateNumber FrameEscape = 4
 stateNumber Giant = 5
 stateNumber GiantEscape = 6
 
--- the tallies among ten numbers, and the place of each there
+-- the tallies among ten numbers
 unfoldable pub talliesAt : List ℕ → Tallies
-talliesAt place =
+talliesAt numbers =
     record {
-      openings = getD place 2 0;
-      frames = getD place 3 0;
-      runts = getD place 4 0;
-      checksums = getD place 5 0;
-      giants = getD place 6 0;
-      escaped = getD place 7 0;
-      broken = getD place 8 0;
-      noise = getD place 9 0;
+      openings = getD numbers 2 0;
+      frames = getD numbers 3 0;
+      runts = getD numbers 4 0;
+      checksums = getD numbers 5 0;
+      giants = getD numbers 6 0;
+      escaped = getD numbers 7 0;
+      broken = getD numbers 8 0;
+      noise = getD numbers 9 0;
     }
 
-abbrev pub tallyPlace : Tally → ℕ
-tallyPlace tally.Openings = 2
-tallyPlace tally.Frames = 3
-tallyPlace tally.Runts = 4
-tallyPlace tally.Checksums = 5
-tallyPlace tally.Giants = 6
-tallyPlace tally.Escaped = 7
-tallyPlace tally.Broken = 8
-tallyPlace tally.Noise = 9
+-- the index of a tally among ten numbers
+abbrev pub tallyIndex : Tally → ℕ
+tallyIndex tally.Openings = 2
+tallyIndex tally.Frames = 3
+tallyIndex tally.Runts = 4
+tallyIndex tally.Checksums = 5
+tallyIndex tally.Giants = 6
+tallyIndex tally.Escaped = 7
+tallyIndex tally.Broken = 8
+tallyIndex tally.Noise = 9
 
 -- the receiver that ten numbers and a body say: state, length, and the tallies in the ledger's order
 abbrev pub receiverAt : List ℕ → List ℕ → Receiver
-receiverAt place body = record { state = stateAt (getD place 0 0); body = body; len = getD place 1 0; tallies = talliesAt place }
+receiverAt numbers body = madeOf freshOf (stateAt (getD numbers 0 0)) body (getD numbers 1 0) (talliesAt numbers)
 
-abbrev pub placeOf : Receiver → List ℕ
-placeOf r = stateNumber (r .state) ∷ r .len ∷ eightOf (r .tallies)
+-- the ten numbers of a receiver
+abbrev pub numbersOf : Receiver → List ℕ
+numbersOf r = stateNumber (r .state) ∷ r .len ∷ eightOf (r .tallies)
 
 -- 01, "Numbers handed back", 12: a state with a length over its limit has no numbers to hand out
-unfoldable pub placedOf : Receiver → Placed
-placedOf r =
-    cond (ltb limit (r .len)) (record { place = replicate 10 0; answer = refusedBy 12 })
-    (record { place = placeOf r; answer = Nothing })
+unfoldable pub numbersTold : Receiver → Numbers
+numbersTold r =
+    cond (tooLong r) (record { numbers = replicate numberCount 0; answer = refusedBy 12 })
+    (record { numbers = numbersOf r; answer = Nothing })

@@ -3,25 +3,25 @@ use Prim.Native.Nat.{ℕ, _+_}
 use mathlib.Core.Bool.{Bool, true, false, cond}
 use mathlib.Core.List.{List, [], _∷_}
 use Rattle.laws.specs.Wrap.{raised}
-use Rattle.reading.specs.Kinds.{Kind, same}
-use Rattle.reading.specs.Kinds as k
+use Rattle.reading.specs.Counters.{Counter, same}
+use Rattle.reading.specs.Counters as k
 use Rattle.link_receive.specs.declared.Tallies.{Tallies}
 use Rattle.link_receive.specs.declared.Tally.{Tally}
 use Rattle.link_receive.specs.declared.Tally.the-variants as tally
 
 -- which count a tally keeps
-abbrev pub kindOf : Tally → Kind
-kindOf tally.Openings = k.openings
-kindOf tally.Frames = k.frames
-kindOf tally.Runts = k.runts
-kindOf tally.Checksums = k.checksums
-kindOf tally.Giants = k.giants
-kindOf tally.Escaped = k.escaped
-kindOf tally.Broken = k.broken
-kindOf tally.Noise = k.noise
+abbrev pub counterOf : Tally → Counter
+counterOf tally.Openings = k.openings
+counterOf tally.Frames = k.frames
+counterOf tally.Runts = k.runts
+counterOf tally.Checksums = k.checksums
+counterOf tally.Giants = k.giants
+counterOf tally.Escaped = k.escaped
+counterOf tally.Broken = k.broken
+counterOf tally.Noise = k.noise
 
--- the tally of a kind
-abbrev pub tallyOf : Kind → Tallies → ℕ
+-- the tally that keeps a counter
+abbrev pub tallyOf : Counter → Tallies → ℕ
 tallyOf k.openings t = t .openings
 tallyOf k.frames t = t .frames
 tallyOf k.runts t = t .runts
@@ -31,8 +31,8 @@ tallyOf k.escaped t = t .escaped
 tallyOf k.broken t = t .broken
 tallyOf k.noise t = t .noise
 
--- the tallies, each made of its kind
-abbrev pub talliesOf : (Kind → ℕ) → Tallies
+-- the tallies, each made of its counter
+abbrev pub talliesOf : (Counter → ℕ) → Tallies
 talliesOf f =
     record {
       openings = f k.openings;
@@ -46,9 +46,10 @@ talliesOf f =
     }
 
 -- 01, "The reading of a stream": tallies wrap at 2^64
-abbrev pub raise : Kind → Tallies → Tallies
+abbrev pub raise : Counter → Tallies → Tallies
 raise j t = talliesOf (λ i. cond (same j i) (raised (tallyOf i t)) (tallyOf i t))
 
+-- 01, "The reading of a stream": a reset sets all eight to 0
 abbrev pub zeros : Tallies
 zeros = talliesOf (λ i. 0)
 

@@ -3,8 +3,8 @@ ghost use mathlib.Core.Path.{_≡_};
 ghost use Prim.Native.Nat.{_<_, _≤_};
 ghost use lib.ListN.{take};
 ghost use Rattle.crc.specs.Crc.{crcOf};
-ghost use Rattle.link_receive.specs.Tally.{kindOf};
-ghost use Rattle.link_receive.specs.Step.{limit, toOf, pushedOf, countedOf, parsedOf, closedOf};
+ghost use Rattle.link_receive.specs.Tally.{counterOf};
+ghost use Rattle.link_receive.specs.Step.{room, toOf, pushedOf, countedOf, parsedOf, closedOf};
 use crate::Answer;
 use crate::Parsed;
 use crate::Receiver;
@@ -29,7 +29,7 @@ pub fn to(r: Receiver, state: State) -> Receiver
 
 // With one unit more.
 pub fn pushed(mut r: Receiver, b: u8) -> Receiver
-    requires { ⌜ r .len < limit ⌝ }
+    requires { ⌜ r .len < room ⌝ }
     ensures { λ next. ⌜ next ≡ pushedOf r b ⌝ }
 {
     let len = r.len;
@@ -44,7 +44,7 @@ pub fn pushed(mut r: Receiver, b: u8) -> Receiver
 
 // With one counted and the body emptied.
 pub fn counted(r: Receiver, tally: Tally, state: State) -> Receiver
-    ensures { λ next. ⌜ next ≡ countedOf r (kindOf tally) state ⌝ }
+    ensures { λ next. ⌜ next ≡ countedOf r (counterOf tally) state ⌝ }
 {
     let tallies = r.tallies;
     let body = r.body;
@@ -58,7 +58,7 @@ pub fn counted(r: Receiver, tally: Tally, state: State) -> Receiver
 
 // With its frame closed.
 pub fn closed(r: Receiver) -> Stepped
-    requires { ⌜ r .len ≤ limit ⌝ }
+    requires { ⌜ r .len ≤ room ⌝ }
     ensures { λ x. ⌜ x ≡ closedOf r (parsedOf crcOf (take (r .len) (r .body))) ⌝ }
 {
     let len = r.len;

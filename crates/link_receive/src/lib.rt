@@ -2,7 +2,7 @@
 // Slices are fed by crates/link_feed.
 ghost use mathlib.Core.Path.{_≡_};
 ghost use Rattle.crc.specs.Crc.{crcOf};
-ghost use Rattle.link_receive.specs.Tally.{kindOf, raise};
+ghost use Rattle.link_receive.specs.Tally.{counterOf, raise};
 ghost use Rattle.link_receive.specs.Frames.{payloadOf};
 ghost use Rattle.link_receive.specs.Step.{openOf, stepOf, freshOf, resetOf};
 use address::Address;
@@ -79,9 +79,9 @@ impl Tallies {
         noise: 0,
     };
 
-    // One more of a kind.
+    // One more of a tally.
     fn raised(mut self, tally: Tally) -> Tallies
-        ensures { λ r. ⌜ r ≡ raise (kindOf tally) self ⌝ }
+        ensures { λ r. ⌜ r ≡ raise (counterOf tally) self ⌝ }
     {
         match tally {
             Tally::Openings => {
@@ -149,10 +149,11 @@ pub enum Answer {
     Refused,
 }
 
-// The receiver: its state, the units of the open frame (the first `len` bytes of `body`), and the tallies.
+// The receiver: its state, the units of the open frame (the first `len` bytes of `body`), and the tallies. A field more goes behind them: the
+// walks by hand of crates/lent_tallies count the fields up to `tallies`.
 pub struct Receiver {
     pub state: State,
-    pub body: [u8; 256],
+    pub body: [u8; Receiver::ROOM],
     pub len: usize,
     pub tallies: Tallies,
 }
@@ -179,7 +180,14 @@ pub struct Stepped {
 }
 
 impl Receiver {
+    // The most units that a frame may have.
     pub const MAX_FRAME_SIZE: usize = 256;
+
+    // The length of the array that they stand in.
+    pub const ROOM: usize = 256;
+
+    // How many numbers say a receiver beside its body.
+    pub const NUMBERS: usize = 10;
 
     // A fresh receiver.
     pub fn new() -> Receiver
@@ -187,7 +195,7 @@ impl Receiver {
     {
         Receiver {
             state: State::Idle,
-            body: [0; 256],
+            body: [0; Receiver::ROOM],
             len: 0,
             tallies: Tallies::ZERO,
         }

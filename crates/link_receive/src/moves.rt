@@ -1,6 +1,7 @@
 // What a byte asks of the receiver, and the verdict on a closed body.
 ghost use mathlib.Core.Path.{_≡_};
 ghost use Rattle.crc.specs.Crc.{crcOf};
+ghost use Rattle.reading.specs.Grammar.{present};
 ghost use Rattle.link_receive.specs.Step.{turnOf, parsedOf};
 use crate::Move;
 use crate::Parsed;
@@ -14,7 +15,7 @@ use words::be16;
 
 // The byte after 7e inside a frame that holds `len` units.
 fn turn_escaped(len: usize, b: u8) -> Move
-    ensures { λ r. ⌜ r ≡ turnOf State.FrameEscape len b ⌝ }
+    ensures { λ r. ⌜ r ≡ turnOf present State.FrameEscape len b ⌝ }
 {
     if b == 0x08 {
         return Move::Close;
@@ -33,7 +34,7 @@ fn turn_escaped(len: usize, b: u8) -> Move
 
 // What a byte asks for, in a state with `len` units held.
 pub fn turn(state: State, len: usize, b: u8) -> Move
-    ensures { λ r. ⌜ r ≡ turnOf state len b ⌝ }
+    ensures { λ r. ⌜ r ≡ turnOf present state len b ⌝ }
 {
     match state {
         State::Idle => match b {
@@ -86,10 +87,10 @@ pub fn parse_frame(body: &[u8]) -> Parsed
     let expected = be16(body[n - 1], body[m]);
     if crc == expected {
         let address = Address::from_u16(be16(body[0], body[1]));
-        let kind = be16(body[2], body[3]);
+        let frame_type = be16(body[2], body[3]);
         Parsed::Sound {
             address: address,
-            frame_type: Type(kind),
+            frame_type: Type(frame_type),
         }
     } else {
         Parsed::Dropped(Tally::Checksums)

@@ -1,6 +1,6 @@
 // A receiver as ten numbers (the state's own, the length, and the eight tallies in the ledger's order) and the 256 bytes of its body.
 ghost use mathlib.Core.Path.{_≡_};
-ghost use Rattle.link_receive.specs.Numbered.{stateAt, stateNumber, receiverAt, placedOf};
+ghost use Rattle.link_receive.specs.Numbered.{stateAt, stateNumber, receiverAt, numbersTold};
 use crate::Answer;
 use crate::Receiver;
 use crate::State;
@@ -37,48 +37,48 @@ pub fn state_number(s: State) -> u64
 }
 
 // The receiver that ten numbers and a body say.
-pub fn receiver_at(place: [u64; 10], body: [u8; 256]) -> Receiver
-    ensures { λ r. ⌜ r ≡ receiverAt place body ⌝ }
+pub fn receiver_at(numbers: [u64; Receiver::NUMBERS], body: [u8; Receiver::ROOM]) -> Receiver
+    ensures { λ r. ⌜ r ≡ receiverAt numbers body ⌝ }
 {
-    let state = state_at(place[0]);
+    let state = state_at(numbers[0]);
     Receiver {
         state: state,
         body: body,
-        len: place[1] as usize,
+        len: numbers[1] as usize,
         tallies: Tallies {
-            openings: place[2],
-            frames: place[3],
-            runts: place[4],
-            checksums: place[5],
-            giants: place[6],
-            escaped: place[7],
-            broken: place[8],
-            noise: place[9],
+            openings: numbers[2],
+            frames: numbers[3],
+            runts: numbers[4],
+            checksums: numbers[5],
+            giants: numbers[6],
+            escaped: numbers[7],
+            broken: numbers[8],
+            noise: numbers[9],
         },
     }
 }
 
 // Ten numbers of a receiver, or the refusal.
-pub struct Placed {
-    pub place: [u64; 10],
+pub struct Numbers {
+    pub numbers: [u64; Receiver::NUMBERS],
     pub answer: Answer,
 }
 
 // The ten numbers of a receiver. Refused by 12, with ten zeros in their place, if its length is over the limit.
-pub fn place_of(r: Receiver) -> Placed
-    ensures { λ p. ⌜ p ≡ placedOf r ⌝ }
+pub fn numbers_of(r: Receiver) -> Numbers
+    ensures { λ p. ⌜ p ≡ numbersTold r ⌝ }
 {
     let len = r.len;
     if Receiver::MAX_FRAME_SIZE < len {
-        return Placed {
-            place: [0; 10],
+        return Numbers {
+            numbers: [0; Receiver::NUMBERS],
             answer: Answer::Refused,
         };
     }
     let state = r.state;
     let t = r.tallies;
     let n = state_number(state);
-    let place = [
+    let numbers = [
         n,
         len as u64,
         t.openings,
@@ -90,8 +90,8 @@ pub fn place_of(r: Receiver) -> Placed
         t.broken,
         t.noise,
     ];
-    Placed {
-        place: place,
+    Numbers {
+        numbers: numbers,
         answer: Answer::Nothing,
     }
 }

@@ -13,20 +13,21 @@ use Rattle.network.specs.declared.HeaderRead.{HeaderRead}
 use Rattle.network.specs.declared.HeaderRead.the-variants.{Header, HeaderTooShort}
 use Rattle.network.specs.Split.{headerSize}
 
--- a node ID is not 0; 0 as an address names no node
+-- network.rs, `NodeID`: a number that is not 0; `NodeAddress`: 0, `ZERO`, names no node
 unfoldable pub nodeOf : ℕ → Node
 nodeOf n = cond (eqb n 0) Zero (ID (record { 0 = n }))
 
--- the address of a node, or 0
+-- network.rs, `NodeAddress` of an `Option<NodeID>`: the ID's number, or `ZERO`
 abbrev pub addressOf : Node → ℕ
 addressOf (ID id) = id .0
 addressOf Zero = 0
 
--- the next node ID; 65535 is the last
+-- network.rs, `successor`: the next node ID; 65535, `MAX`, has none
 unfoldable pub successorOf : ℕ → Successor
 successorOf n = cond (ltb n 65535) (Next (record { 0 = n + 1 })) Last
 
--- packet type (1), node address (2), short address (2), dsn (1), data length (1); multibyte fields are big-endian
+-- network.rs, `ReceivedPacketHeader`: packet type (1), node address (2), short address (2), dsn (1), data length (1);
+-- multibyte fields are big-endian
 unfoldable pub headerOf : List ℕ → HeaderRead
 headerOf p =
     cond (ltb (length p) headerSize) HeaderTooShort

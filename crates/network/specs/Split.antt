@@ -13,7 +13,8 @@ use Rattle.network.specs.declared.Tally.{Tally}
 abbrev pub headerSize : ℕ
 headerSize = 7
 
--- a packet is its header and as many bytes of data as the header's last byte says; of fewer than 7 bytes this is more than there are
+-- network.rs, `ReceivedPackets`: a packet is its header and as many bytes of data as the header's last byte says; of fewer than 7 bytes this
+-- is more than there are
 abbrev pub packetSize : List ℕ → ℕ
 packetSize a = headerSize + getD a 6 0
 
@@ -26,10 +27,11 @@ pub record Split : Type 0 where
   pub packets : List (List ℕ)
   pub rest : List ℕ
 
+-- a packet set before the others
 abbrev pub put : List ℕ → Split → Split
 put p s = record { packets = p ∷ s .packets; rest = s .rest }
 
--- past : how many bytes still belong to the packet before
+-- the packets of an area whose first `past` bytes still belong to the packet before
 unfoldable pub packetsPast : ℕ → List ℕ → Split
 packetsPast past [] = record { packets = []; rest = [] }
 packetsPast (suc past) (b ∷ s) = packetsPast past s

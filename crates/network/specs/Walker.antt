@@ -19,6 +19,7 @@ placeAfter a at (Packet d e) = e
 placeAfter a at TooShort = length a
 placeAfter a at Finished = at
 
+-- what a walker at a place tells, and the place where it goes on
 abbrev pub sightAt : List ℕ → ℕ → Sight
 sightAt a at = record { found = foundAt a at; at = placeAfter a at (foundAt a at) }
 

@@ -2,11 +2,13 @@
 ghost use mathlib.Core.Path.{_≡_};
 ghost use Prim.Native.Nat.{_<_};
 ghost use Rattle.answers.specs.Types.{counterOf};
-ghost use Rattle.plain_frames.specs.Plain.{counted, enumerationStartIn, identityIn, versionIn, enumerationEndIn, countIn, untabledIn};
+ghost use Rattle.plain_frames.specs.Plain.{counted, enumerationStartIn, identityIn, versionIn, enumerationEndIn, countIn, byTypeIn, untabledIn};
 use address::GatewayID;
+use address::ID_LIMIT;
 use answers::Answer;
 use answers::counters::*;
 use answers::entries::raise;
+use link::PAYLOAD_LIMIT;
 use link::Type;
 use words::be16;
 
@@ -42,16 +44,16 @@ const ENUMERATION_END_RESPONSE: u16 = Type::ENUMERATION_END_RESPONSE.0;
 fn enumeration_start_request(
     counters: &mut [u64; 33],
     from: bool,
-    gateway: u16,
+    gateway: GatewayID,
     payload: &[u8],
 ) -> Answer
-    ensures { λ r. ⌜ counted r (now (counters .exit)) ≡ enumerationStartIn (now (counters .entry)) from gateway (now (payload .entry)) ⌝ }
+    ensures { λ r. ⌜ counted r (now (counters .exit)) ≡ enumerationStartIn (now (counters .entry)) from (gateway .0) (now (payload .entry)) ⌝ }
 {
     if from {
         raise(counters, INVALID_ENUMERATION_START_REQUEST);
         return Answer::WrongDirection;
     }
-    if gateway != 0 {
+    if gateway.0 != 0 {
         raise(counters, INVALID_ENUMERATION_START_REQUEST);
         return Answer::WrongDirection;
     }
@@ -113,10 +115,11 @@ fn enumeration_end_response(counters: &mut [u64; 33], from: bool) -> Answer
 }
 
 // The counter of a type that is counted and no more; that of unhandled types for any other.
-fn counter_of(kind: u16) -> usize
-    ensures { λ r. ⌜ (r ≡ counterOf kind) × (r < 33) ⌝ }
+fn counter_of(frame_type: Type) -> usize
+    ensures { λ r. ⌜ (r ≡ counterOf («frame_type» .0)) × (r < 33) ⌝ }
 {
-    match kind {
+    let number = frame_type.0;
+    match number {
         PING_REQUEST => PING_REQUESTS,
         PING_RESPONSE => PING_RESPONSES,
         ENUMERATION_START_RESPONSE => ENUMERATION_START_RESPONSES,
@@ -130,10 +133,10 @@ fn counter_of(kind: u16) -> usize
     }
 }
 
-fn count(counters: &mut [u64; 33], kind: u16) -> Answer
-    ensures { λ r. ⌜ counted r (now (counters .exit)) ≡ countIn (now (counters .entry)) kind ⌝ }
+fn count(counters: &mut [u64; 33], frame_type: Type) -> Answer
+    ensures { λ r. ⌜ counted r (now (counters .exit)) ≡ countIn (now (counters .entry)) («frame_type» .0) ⌝ }
 {
-    let i = counter_of(kind);
+    let i = counter_of(frame_type);
     raise(counters, i);
     if i == UNHANDLED_FRAME_TYPE {
         Answer::UnhandledType
@@ -142,20 +145,20 @@ fn count(counters: &mut [u64; 33], kind: u16) -> Answer
     }
 }
 
-// The types that touch no table; any other number is 31. Refused by 31, 20, 21, 28, 29, in this order.
-pub fn untabled(
+// A frame of a type that touches no table, which 13 and 32 do not refuse; any other number is 31. Refused by 31, 20, 21, 28, 29, in this order.
+fn by_type(
     counters: &mut [u64; 33],
     from: bool,
-    gateway: u16,
-    kind: u16,
+    gateway: GatewayID,
+    frame_type: Type,
     payload: &[u8],
 ) -> Answer
-    ensures { λ r. ⌜ counted r (now (counters .exit)) ≡ untabledIn (now (counters .entry)) from gateway kind (now (payload .entry)) ⌝ }
+    ensures { λ r. ⌜ counted r (now (counters .exit)) ≡ byTypeIn (now (counters .entry)) from (gateway .0) («frame_type» .0) (now (payload .entry)) ⌝ }
 {
-    if kind == ENUMERATION_START_REQUEST {
+    if frame_type.0 == ENUMERATION_START_REQUEST {
         return enumeration_start_request(counters, from, gateway, payload);
     }
-    if kind == ENUMERATION_RESPONSE {
+    if frame_type.0 == ENUMERATION_RESPONSE {
         return identity(
             counters,
             ENUMERATION_RESPONSES,
@@ -164,7 +167,7 @@ pub fn untabled(
             payload,
         );
     }
-    if kind == IDENTIFY_RESPONSE {
+    if frame_type.0 == IDENTIFY_RESPONSE {
         return identity(
             counters,
             IDENTIFY_RESPONSES,
@@ -173,11 +176,30 @@ pub fn untabled(
             payload,
         );
     }
-    if kind == VERSION_RESPONSE {
+    if frame_type.0 == VERSION_RESPONSE {
         return version_response(counters, from, payload);
     }
-    if kind == ENUMERATION_END_RESPONSE {
+    if frame_type.0 == ENUMERATION_END_RESPONSE {
         return enumeration_end_response(counters, from);
     }
-    count(counters, kind)
+    count(counters, frame_type)
+}
+
+// The types that touch no table; any other number is 31. Refused by 13, 32, 31, 20, 21, 28, 29, in this order.
+pub fn untabled(
+    counters: &mut [u64; 33],
+    from: bool,
+    gateway: GatewayID,
+    frame_type: Type,
+    payload: &[u8],
+) -> Answer
+    ensures { λ r. ⌜ counted r (now (counters .exit)) ≡ untabledIn (now (counters .entry)) from (gateway .0) («frame_type» .0) (now (payload .entry)) ⌝ }
+{
+    if ID_LIMIT < gateway.0 {
+        return Answer::InvalidGatewayID;
+    }
+    if PAYLOAD_LIMIT < payload.len() {
+        return Answer::PayloadTooLong;
+    }
+    by_type(counters, from, gateway, frame_type, payload)
 }

@@ -1,6 +1,6 @@
 -- Each public contract determines its outcome, of whatever function a caller can name. Of `payload` and `request_payload`, which hand back a part of
 -- what they are lent, it determines the bytes. Functions whose proofs are walked by hand are in Walked.antt; the doors of the comparison are not
--- among them. Assumes nothing.
+-- among them, nor those of crates/console that read or write, whose outcome is the system's. Assumes nothing.
 use mathlib.Core.Path.{_≡_, refl, sym, ap, _∙_}
 use mathlib.Core.Bool.{Bool, true, false}
 use mathlib.Core.Logic.{_↔_}
@@ -26,6 +26,8 @@ use Rattle.receive_frames.specs.Receive.{Asked, Received}
 use Rattle.command_frames.specs.Command.{Requested, Answered}
 use Rattle.plain_frames.specs.Plain.{Counted}
 use Rattle.transport_receiver.specs.declared.Stepped.{Stepped}
+use Rattle.reading.specs.Grammar.{present}
+use Rattle.console.specs.Text.{Text}
 use Rattle.promises.proofs.Ledgers.{ledgered-once}
 use Rattle.crc.proofs.crc.Kinds as crc·crc·kinds
 use Rattle.crc.proofs.crc.Reads as crc·crc·reads
@@ -59,8 +61,8 @@ use Rattle.link_receive.proofs.numbered.state_number.Kinds as link-receive·num
 use Rattle.link_receive.proofs.numbered.state_number.Reads as link-receive·numbered·state-number·reads
 use Rattle.link_receive.proofs.numbered.receiver_at.Kinds as link-receive·numbered·receiver-at·kinds
 use Rattle.link_receive.proofs.numbered.receiver_at.Reads as link-receive·numbered·receiver-at·reads
-use Rattle.link_receive.proofs.numbered.place_of.Kinds as link-receive·numbered·place-of·kinds
-use Rattle.link_receive.proofs.numbered.place_of.Reads as link-receive·numbered·place-of·reads
+use Rattle.link_receive.proofs.numbered.numbers_of.Kinds as link-receive·numbered·numbers-of·kinds
+use Rattle.link_receive.proofs.numbered.numbers_of.Reads as link-receive·numbered·numbers-of·reads
 use Rattle.link_feed.proofs.lending.feed_in.Kinds as link-feed·lending·feed-in·kinds
 use Rattle.link_feed.proofs.lending.feed_in.Reads as link-feed·lending·feed-in·reads
 use Rattle.link_feed.proofs.lending.feed_from.Kinds as link-feed·lending·feed-from·kinds
@@ -111,8 +113,8 @@ use Rattle.slot_counter.proofs.SlotNumber.try_from.Kinds as slot-counter·SlotN
 use Rattle.slot_counter.proofs.SlotNumber.try_from.Reads as slot-counter·SlotNumber·try-from·reads
 use Rattle.slot_counter.proofs.SlotNumber.get.Kinds as slot-counter·SlotNumber·get·kinds
 use Rattle.slot_counter.proofs.SlotNumber.get.Reads as slot-counter·SlotNumber·get·reads
-use Rattle.slot_counter.proofs.SlotEpoch.place.Kinds as slot-counter·SlotEpoch·place·kinds
-use Rattle.slot_counter.proofs.SlotEpoch.place.Reads as slot-counter·SlotEpoch·place·reads
+use Rattle.slot_counter.proofs.SlotEpoch.index.Kinds as slot-counter·SlotEpoch·index·kinds
+use Rattle.slot_counter.proofs.SlotEpoch.index.Reads as slot-counter·SlotEpoch·index·reads
 use Rattle.slot_counter.proofs.SlotEpoch.add.Kinds as slot-counter·SlotEpoch·add·kinds
 use Rattle.slot_counter.proofs.SlotEpoch.add.Reads as slot-counter·SlotEpoch·add·reads
 use Rattle.slot_counter.proofs.SlotEpoch.add_assign.Kinds as slot-counter·SlotEpoch·add-assign·kinds
@@ -181,6 +183,8 @@ use Rattle.transport_receiver.proofs.Receiver.reset_counters.Kinds as transport
 use Rattle.transport_receiver.proofs.Receiver.reset_counters.Reads as transport-receiver·Receiver·reset-counters·reads
 use Rattle.transport_receiver.proofs.step_in.Kinds as transport-receiver·step-in·kinds
 use Rattle.transport_receiver.proofs.step_in.Reads as transport-receiver·step-in·reads
+use Rattle.transport_receiver.proofs.reset_in.Kinds as transport-receiver·reset-in·kinds
+use Rattle.transport_receiver.proofs.reset_in.Reads as transport-receiver·reset-in·reads
 use Rattle.sound_record.proofs.sound_body.Kinds as sound-record·sound-body·kinds
 use Rattle.sound_record.proofs.sound_body.Reads as sound-record·sound-body·reads
 use Rattle.sound_record.proofs.sound.Kinds as sound-record·sound·kinds
@@ -203,8 +207,8 @@ use Rattle.event_record.proofs.packet.Kinds as event-record·packet·kinds
 use Rattle.event_record.proofs.packet.Reads as event-record·packet·reads
 use Rattle.event_record.proofs.command.Kinds as event-record·command·kinds
 use Rattle.event_record.proofs.command.Reads as event-record·command·reads
-use Rattle.records.proofs.write.Kinds as records·write·kinds
-use Rattle.records.proofs.write.Reads as records·write·reads
+use Rattle.event_log.proofs.write.Kinds as event-log·write·kinds
+use Rattle.event_log.proofs.write.Reads as event-log·write·reads
 use Rattle.words.proofs.half.Kinds as words·half·kinds
 use Rattle.words.proofs.half.Reads as words·half·reads
 use Rattle.words.proofs.word.Kinds as words·word·kinds
@@ -215,16 +219,26 @@ use Rattle.words.proofs.byte_at.Kinds as words·byte-at·kinds
 use Rattle.words.proofs.byte_at.Reads as words·byte-at·reads
 use Rattle.words.proofs.be16.Kinds as words·be16·kinds
 use Rattle.words.proofs.be16.Reads as words·be16·reads
-use Rattle.runs.proofs.is.Kinds as runs·is·kinds
-use Rattle.runs.proofs.is.Reads as runs·is·reads
-use Rattle.runs.proofs.run.Kinds as runs·run·kinds
-use Rattle.runs.proofs.run.Reads as runs·run·reads
-use Rattle.runs.proofs.copy_run.Kinds as runs·copy-run·kinds
-use Rattle.runs.proofs.copy_run.Reads as runs·copy-run·reads
+use Rattle.words.proofs.copy_in.Kinds as words·copy-in·kinds
+use Rattle.words.proofs.copy_in.Reads as words·copy-in·reads
+use Rattle.byte_runs.proofs.is.Kinds as byte-runs·is·kinds
+use Rattle.byte_runs.proofs.is.Reads as byte-runs·is·reads
+use Rattle.byte_runs.proofs.run.Kinds as byte-runs·run·kinds
+use Rattle.byte_runs.proofs.run.Reads as byte-runs·run·reads
+use Rattle.byte_runs.proofs.copy_run.Kinds as byte-runs·copy-run·kinds
+use Rattle.byte_runs.proofs.copy_run.Reads as byte-runs·copy-run·reads
 use Rattle.link_receive.proofs.payload.Kinds as link-receive·payload·kinds
 use Rattle.link_receive.proofs.payload.Reads as link-receive·payload·reads
 use Rattle.transport_receiver.proofs.request_payload.Kinds as transport-receiver·request-payload·kinds
 use Rattle.transport_receiver.proofs.request_payload.Reads as transport-receiver·request-payload·reads
+use Rattle.console.proofs.text.put.Kinds as console·text·put·kinds
+use Rattle.console.proofs.text.put.Reads as console·text·put·reads
+use Rattle.console.proofs.text.put_all.Kinds as console·text·put-all·kinds
+use Rattle.console.proofs.text.put_all.Reads as console·text·put-all·reads
+use Rattle.console.proofs.text.put_hex.Kinds as console·text·put-hex·kinds
+use Rattle.console.proofs.text.put_hex.Reads as console·text·put-hex·reads
+use Rattle.console.proofs.turns_left.Kinds as console·turns-left·kinds
+use Rattle.console.proofs.turns_left.Reads as console·turns-left·reads
 
 -- a kind and its number
 abbrev dsn : ℕ → DSN
@@ -294,8 +308,8 @@ link-receive·numbered·state-number κs a x y u v p q = (p ∙ sym q, refl)
 pub link-receive·numbered·receiver-at : Determined 0 link-receive·numbered·receiver-at·kinds.ps link-receive·numbered·receiver-at·kinds.r link-receive·numbered·receiver-at·reads.Learnt
 link-receive·numbered·receiver-at κs a x y u v p q = (p ∙ sym q, refl)
 
-pub link-receive·numbered·place-of : Determined 0 link-receive·numbered·place-of·kinds.ps link-receive·numbered·place-of·kinds.r link-receive·numbered·place-of·reads.Learnt
-link-receive·numbered·place-of κs a x y u v p q = (p ∙ sym q, refl)
+pub link-receive·numbered·numbers-of : Determined 0 link-receive·numbered·numbers-of·kinds.ps link-receive·numbered·numbers-of·kinds.r link-receive·numbered·numbers-of·reads.Learnt
+link-receive·numbered·numbers-of κs a x y u v p q = (p ∙ sym q, refl)
 
 pub link-feed·lending·feed-in : Determined 3 link-feed·lending·feed-in·kinds.ps link-feed·lending·feed-in·kinds.r link-feed·lending·feed-in·reads.Learnt
 link-feed·lending·feed-in κs a x y u v p q = (p .0 ∙ sym (q .0), cc)
@@ -328,7 +342,7 @@ pub books·give : Determined 1 books·give·kinds.ps books·give·kinds.r books�
 books·give κs a x y u v p q = (p .exactly ∙ sym (q .exactly), refl)
 
 pub books·ledger-of : Determined 1 books·ledger-of·kinds.ps books·ledger-of·kinds.r books·ledger-of·reads.Learnt
-books·ledger-of κs a x y u v p q = (ledgered-once crcOf (now (a .0)) x y p q, refl)
+books·ledger-of κs a x y u v p q = (ledgered-once crcOf present (now (a .0)) x y p q, refl)
 
 pub utf8·is-utf8 : Determined 1 utf8·is-utf8·kinds.ps utf8·is-utf8·kinds.r utf8·is-utf8·reads.Learnt
 utf8·is-utf8 κs a x y u v p q = (both x y p q, refl)
@@ -372,8 +386,8 @@ slot-counter·SlotNumber·try-from κs a x y u v p q = (p ∙ sym q, refl)
 pub slot-counter·SlotNumber·get : Determined 0 slot-counter·SlotNumber·get·kinds.ps slot-counter·SlotNumber·get·kinds.r slot-counter·SlotNumber·get·reads.Learnt
 slot-counter·SlotNumber·get κs a x y u v p q = (p ∙ sym q, refl)
 
-pub slot-counter·SlotEpoch·place : Determined 0 slot-counter·SlotEpoch·place·kinds.ps slot-counter·SlotEpoch·place·kinds.r slot-counter·SlotEpoch·place·reads.Learnt
-slot-counter·SlotEpoch·place κs a x y u v p q = (p ∙ sym q, refl)
+pub slot-counter·SlotEpoch·index : Determined 0 slot-counter·SlotEpoch·index·kinds.ps slot-counter·SlotEpoch·index·kinds.r slot-counter·SlotEpoch·index·reads.Learnt
+slot-counter·SlotEpoch·index κs a x y u v p q = (p ∙ sym q, refl)
 
 pub slot-counter·SlotEpoch·add : Determined 0 slot-counter·SlotEpoch·add·kinds.ps slot-counter·SlotEpoch·add·kinds.r slot-counter·SlotEpoch·add·reads.Learnt
 slot-counter·SlotEpoch·add κs a x y u v p q = (p ∙ sym q, refl)
@@ -475,7 +489,10 @@ pub transport-receiver·Receiver·reset-counters : Determined 0 transport-receiv
 transport-receiver·Receiver·reset-counters κs a x y u v p q = (p .0 ∙ sym (q .0), refl)
 
 pub transport-receiver·step-in : Determined 10 transport-receiver·step-in·kinds.ps transport-receiver·step-in·kinds.r transport-receiver·step-in·reads.Learnt
-transport-receiver·step-in κs a x y u v p q = (ap (λ (s : Stepped). s .answer) (p ∙ sym q), ap (λ (s : Stepped). (at-last (a .0) (s .receiver .nkeys), (at-last (a .1 .0) (s .receiver .numbers), (at-last (a .1 .1 .0) (s .receiver .skeys), (at-last (a .1 .1 .1 .0) (s .receiver .sequences), (at-last (a .1 .1 .1 .1 .0) (s .receiver .ckeys), (at-last (a .1 .1 .1 .1 .1 .0) (s .receiver .ctypes), (at-last (a .1 .1 .1 .1 .1 .1 .0) (s .receiver .clengths), (at-last (a .1 .1 .1 .1 .1 .1 .1 .0) (s .receiver .cpayloads), (at-last (a .1 .1 .1 .1 .1 .1 .1 .1 .0) (s .receiver .counters), (a .1 .1 .1 .1 .1 .1 .1 .1 .1 .0, (a .1 .1 .1 .1 .1 .1 .1 .1 .1 .1 .0, (a .1 .1 .1 .1 .1 .1 .1 .1 .1 .1 .1 .0, tt))))))))))))) (p ∙ sym q))
+transport-receiver·step-in κs a x y u v p q = (ap (λ (s : Stepped). s .answer) (p .0 ∙ sym (q .0)), ap (λ (s : Stepped). (at-last (a .0) (s .receiver .nkeys), (at-last (a .1 .0) (s .receiver .numbers), (at-last (a .1 .1 .0) (s .receiver .skeys), (at-last (a .1 .1 .1 .0) (s .receiver .sequences), (at-last (a .1 .1 .1 .1 .0) (s .receiver .ckeys), (at-last (a .1 .1 .1 .1 .1 .0) (s .receiver .ctypes), (at-last (a .1 .1 .1 .1 .1 .1 .0) (s .receiver .clengths), (at-last (a .1 .1 .1 .1 .1 .1 .1 .0) (s .receiver .cpayloads), (at-last (a .1 .1 .1 .1 .1 .1 .1 .1 .0) (s .receiver .counters), (a .1 .1 .1 .1 .1 .1 .1 .1 .1 .0, (a .1 .1 .1 .1 .1 .1 .1 .1 .1 .1 .0, (a .1 .1 .1 .1 .1 .1 .1 .1 .1 .1 .1 .0, tt))))))))))))) (p .0 ∙ sym (q .0)))
+
+pub transport-receiver·reset-in : Determined 3 transport-receiver·reset-in·kinds.ps transport-receiver·reset-in·kinds.r transport-receiver·reset-in·reads.Learnt
+transport-receiver·reset-in κs a x y u v p q = (p .0 ∙ sym (q .0), ap (λ (n : List ℕ). (a .0, (a .1 .0, (at-last (a .1 .1 .0) n, tt)))) (p .1 ∙ sym (q .1)))
 
 pub sound-record·sound-body : Determined 1 sound-record·sound-body·kinds.ps sound-record·sound-body·kinds.r sound-record·sound-body·reads.Learnt
 sound-record·sound-body κs a x y u v p q = (p ∙ sym q, refl)
@@ -510,8 +527,8 @@ event-record·packet κs a x y u v p q = (handed-apart x y (p .0 ∙ sym (q .0))
 pub event-record·command : Determined 3 event-record·command·kinds.ps event-record·command·kinds.r event-record·command·reads.Learnt
 event-record·command κs a x y u v p q = (handed-apart x y (p .0 ∙ sym (q .0)), cc)
 
-pub records·write : Determined 3 records·write·kinds.ps records·write·kinds.r records·write·reads.Learnt
-records·write κs a x y u v p q = (handed-apart x y (p .0 ∙ sym (q .0)), ap (λ (z : List ℕ). (at-last (a .0) z, (a .1 .0, (a .1 .1 .0, (a .1 .1 .1 .0, (a .1 .1 .1 .1 .0, tt)))))) (p .1 ∙ sym (q .1)))
+pub event-log·write : Determined 3 event-log·write·kinds.ps event-log·write·kinds.r event-log·write·reads.Learnt
+event-log·write κs a x y u v p q = (handed-apart x y (p .0 ∙ sym (q .0)), ap (λ (z : List ℕ). (at-last (a .0) z, (a .1 .0, (a .1 .1 .0, (a .1 .1 .1 .0, (a .1 .1 .1 .1 .0, tt)))))) (p .1 ∙ sym (q .1)))
 
 pub words·half : Determined 1 words·half·kinds.ps words·half·kinds.r words·half·reads.Learnt
 words·half κs a x y u v p q = (p .0 ∙ sym (q .0), refl)
@@ -528,14 +545,29 @@ words·byte-at κs a x y u v p q = (p ∙ sym q, refl)
 pub words·be16 : Determined 0 words·be16·kinds.ps words·be16·kinds.r words·be16·reads.Learnt
 words·be16 κs a x y u v p q = (p ∙ sym q, refl)
 
-pub runs·is : Determined 0 runs·is·kinds.ps runs·is·kinds.r runs·is·reads.Learnt
-runs·is κs a x y u v p q = (p ∙ sym q, refl)
+pub words·copy-in : Determined 2 words·copy-in·kinds.ps words·copy-in·kinds.r words·copy-in·reads.Learnt
+words·copy-in κs a x y u v p q = (refl, ap (λ (z : List ℕ). (at-last (a .0) z, (a .1 .0, (a .1 .1 .0, tt)))) (p ∙ sym q))
 
-pub runs·run : Determined 1 runs·run·kinds.ps runs·run·kinds.r runs·run·reads.Learnt
-runs·run κs a x y u v p q = (p ∙ sym q, refl)
+pub byte-runs·is : Determined 0 byte-runs·is·kinds.ps byte-runs·is·kinds.r byte-runs·is·reads.Learnt
+byte-runs·is κs a x y u v p q = (p ∙ sym q, refl)
 
-pub runs·copy-run : Determined 2 runs·copy-run·kinds.ps runs·copy-run·kinds.r runs·copy-run·reads.Learnt
-runs·copy-run κs a x y u v p q = (p .0 ∙ sym (q .0), ap (λ (z : List ℕ). (a .0, (at-last (a .1 .0) z, (a .1 .1 .0, (a .1 .1 .1 .0, (a .1 .1 .1 .1 .0, tt)))))) (p .1 ∙ ap (λ (n : ℕ). paste (now (a .1 .0)) (a .1 .1 .0) (drop (a .1 .1 .1 .1 .0) (now (a .1 .1 .1 .0))) n) (p .0 ∙ sym (q .0)) ∙ sym (q .1)))
+pub byte-runs·run : Determined 1 byte-runs·run·kinds.ps byte-runs·run·kinds.r byte-runs·run·reads.Learnt
+byte-runs·run κs a x y u v p q = (p ∙ sym q, refl)
+
+pub byte-runs·copy-run : Determined 2 byte-runs·copy-run·kinds.ps byte-runs·copy-run·kinds.r byte-runs·copy-run·reads.Learnt
+byte-runs·copy-run κs a x y u v p q = (p .0 ∙ sym (q .0), ap (λ (z : List ℕ). (a .0, (at-last (a .1 .0) z, (a .1 .1 .0, (a .1 .1 .1 .0, (a .1 .1 .1 .1 .0, tt)))))) (p .1 ∙ ap (λ (n : ℕ). paste (now (a .1 .0)) (a .1 .1 .0) (drop (a .1 .1 .1 .1 .0) (now (a .1 .1 .1 .0))) n) (p .0 ∙ sym (q .0)) ∙ sym (q .1)))
+
+pub console·text·put : Determined 1 console·text·put·kinds.ps console·text·put·kinds.r console·text·put·reads.Learnt
+console·text·put κs a x y u v p q = (ap (λ (t : Text). t .at) (p ∙ sym q), ap (λ (t : Text). (at-last (a .0) (t .bytes), (a .1 .0, (a .1 .1 .0, tt)))) (p ∙ sym q))
+
+pub console·text·put-all : Determined 2 console·text·put-all·kinds.ps console·text·put-all·kinds.r console·text·put-all·reads.Learnt
+console·text·put-all κs a x y u v p q = (ap (λ (t : Text). t .at) (p ∙ sym q), ap (λ (t : Text). (at-last (a .0) (t .bytes), (a .1 .0, (a .1 .1 .0, tt)))) (p ∙ sym q))
+
+pub console·text·put-hex : Determined 2 console·text·put-hex·kinds.ps console·text·put-hex·kinds.r console·text·put-hex·reads.Learnt
+console·text·put-hex κs a x y u v p q = (ap (λ (t : Text). t .at) (p ∙ sym q), ap (λ (t : Text). (at-last (a .0) (t .bytes), (a .1 .0, (a .1 .1 .0, tt)))) (p ∙ sym q))
+
+pub console·turns-left : Determined 0 console·turns-left·kinds.ps console·turns-left·kinds.r console·turns-left·reads.Learnt
+console·turns-left κs a x y u v p q = (p .0 ∙ sym (q .0), refl)
 
 -- a part of what is lent is handed back: its bytes are determined
 pub link-receive·payload : (κs : Lfts 1) (a : Dens κs link-receive·payload·kinds.ps) (x y : resT link-receive·payload·kinds.r κs .Denot) (u v : Lasts (endedOf 1 link-receive·payload·kinds.ps link-receive·payload·kinds.r) κs a)

@@ -1,8 +1,9 @@
--- Some bytes have one ledger. Assumes nothing.
+-- Some bytes have one ledger, by whatever rules. Assumes nothing.
 use mathlib.Core.Path.{_≡_, refl, sym, ap, _∙_}
 use Prim.Native.Nat.{ℕ}
 use mathlib.Core.List.{List}
 use lib.ListN.{getD}
+use Rattle.reading.specs.Grammar.{Rules}
 use Rattle.reading.specs.Counts.{ledgerOf}
 use Rattle.books.specs.declared.Ledger.{Ledger}
 use Rattle.books.specs.Ledgers.{numbersOf, Ledgered}
@@ -22,6 +23,6 @@ ofNumbers ns =
       unfinished = getD ns 8 0;
     }
 
-pub ledgered-once : (check : List ℕ → ℕ) (bs : List ℕ) (l m : Ledger) → Ledgered check bs l → Ledgered check bs m → l ≡ m
-ledgered-once check bs l m p q =
+pub ledgered-once : (check : List ℕ → ℕ) (rules : Rules) (bs : List ℕ) (l m : Ledger) → Ledgered check rules bs l → Ledgered check rules bs m → l ≡ m
+ledgered-once check rules bs l m p q =
     ap ofNumbers (p .counted ∙ ap (ledgerOf check) (q .reading .only (p .pieces) (p .reading .is)) ∙ sym (q .counted))

@@ -18,8 +18,8 @@ use Rattle.link_receive.specs.declared.Tallies.{Tallies}
 use Rattle.network.specs.declared.received_packets.ReceivedPackets.{ReceivedPackets}
 use Rattle.network.specs.Walker.{Next}
 use Rattle.link_feed.specs.Tallies.{Pushed, FedWith}
-use Rattle.lent.proofs.push_u8 as push-u8
-use Rattle.lent.proofs.feed as feed
+use Rattle.lent_tallies.proofs.push_u8 as push-u8
+use Rattle.lent_tallies.proofs.feed as feed
 use Rattle.network.proofs.received_packets.ReceivedPackets.new as new
 use Rattle.network.proofs.received_packets.ReceivedPackets.next as next
 
@@ -29,8 +29,8 @@ push-u8-says κs a x e = Pushed crcOf (now (a .0)) (a .1 .0) (a .1 .1 .0) x (now
 pub push-u8-said : {M : Type 1} (𝓤 : URA M) (H : Heap 𝓤) (A : Atoms 𝓤) (mem : Memory → SProp 𝓤) (run : Routine → Fun 𝓤) → SaidBy 𝓤 push-u8.ended (push-u8.clauses 𝓤 H A mem run) push-u8-says
 push-u8-said 𝓤 H A mem run κs a g x e = refl
 
-pub lent·push-u8 : DeterminedBy push-u8.ended push-u8-says
-lent·push-u8 κs a x y u v p q =
+pub lent-tallies·push-u8 : DeterminedBy push-u8.ended push-u8-says
+lent-tallies·push-u8 κs a x y u v p q =
     let s : x ≡ y = p .exactly ∙ sym (q .exactly) in
     (s, ap (λ (t : Tallies). (at-last (a .0) t, (a .1 .0, (a .1 .1 .0, tt)))) (p .lent ∙ ap (λ (z : Stepped). z .next .tallies) s ∙ sym (q .lent)))
 
@@ -40,8 +40,8 @@ feed-says κs a x e = FedWith crcOf (now (a .0)) (a .1 .0) (now (a .1 .1 .0)) x 
 pub feed-said : {M : Type 1} (𝓤 : URA M) (H : Heap 𝓤) (A : Atoms 𝓤) (mem : Memory → SProp 𝓤) (run : Routine → Fun 𝓤) → SaidBy 𝓤 feed.ended (feed.clauses 𝓤 H A mem run) feed-says
 feed-said 𝓤 H A mem run κs a g x e = refl
 
-pub lent·feed : DeterminedBy feed.ended feed-says
-lent·feed κs a x y u v p q =
+pub lent-tallies·feed : DeterminedBy feed.ended feed-says
+lent-tallies·feed κs a x y u v p q =
     let s : x ≡ y = p .exactly ∙ sym (q .exactly) in
     (s, ap (λ (t : Tallies). (at-last (a .0) t, (a .1 .0, (a .1 .1 .0, tt)))) (p .lent ∙ ap (λ (z : Fed). z .next .tallies) s ∙ sym (q .lent)))
 

@@ -22,6 +22,7 @@ Determined n ps r L =
 abbrev pub Says : Ended → Type 1
 Says T = (κs : Lfts (T .signature .lifetimes)) → Args (T .signature) κs → Res (T .signature) κs → AtExit T κs → Type 0
 
+-- .. any two outcomes that this allows are equal, ..
 abbrev pub DeterminedBy : (T : Ended) → Says T → Type 0
 DeterminedBy T L =
     (κs : Lfts (T .signature .lifetimes)) (a : Args (T .signature) κs) (x y : Res (T .signature) κs) (u v : Lasts T κs a)

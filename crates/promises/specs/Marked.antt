@@ -14,12 +14,13 @@ pub data Case : Type 0 where
 -- what a row claims: that its bytes have one reading, which says what the row says; that its number or status word comes to what the row says
 abbrev pub Claim : Case → Type 0
 Claim (of-stream x) = streams.Holds crcOf x
-Claim (of-payload x) = T (payloads.claimed 0 x)
+Claim (of-payload x) = T (payloads.claimed x)
 
 -- 01, "Marked cases": proved in one table with one claim
 abbrev pub marked : List Case
 marked = map of-stream streams.marked ++ map of-payload payloads.marked
 
+-- the one claim: that of each case
 pub data Every : List Case → Type 0 where
   none : Every []
   also : {c : Case} {cs : List Case} → Claim c → Every cs → Every (c ∷ cs)

@@ -9,22 +9,22 @@ use lib.ListN.{length}
 use lib.Dec.{eqb, ltb}
 use borrow.Author.Tests.{eqb-true}
 use Rattle.escaping.specs.Escapes.{Meaning, datum, opener, closer, neither, meaning}
-use Rattle.reading.specs.Kinds.{Kind, openings, frames, runts, checksums, giants, escaped, broken, noise, placeOf, same}
-use Rattle.reading.specs.Grammar.{Line, idle, Unit, Opening, Ending, closed, broken-by, giant-by, escaped-by, unfinished, unfinished-7e, Piece, outside-byte, outside-pair, outside-7e, frame, tail, is7e, leadsTo, isNoise, Reading}
-use Rattle.reading.specs.Counts.{Verdict, runt, checksum, sound, verdict, kindOf, Rest, out, out-7e, inside, inside-7e, over, over-7e, left, bodyIn, one, counts, count, endings, bodyIf, soundIn, soundBodies, openIn, countSince, endingsSince}
+use Rattle.reading.specs.Counters.{Counter, openings, frames, runts, checksums, giants, escaped, broken, noise, indexOf, same}
+use Rattle.reading.specs.Grammar.{Rules, Line, idle, Unit, Opening, Ending, closed, broken-by, giant-by, escaped-by, unfinished, unfinished-7e, Piece, outside-byte, outside-pair, outside-7e, frame, tail, is7e, leadsTo, isNoise, Reading}
+use Rattle.reading.specs.Counts.{Verdict, runt, checksum, sound, verdict, counterOf, Rest, out, out-7e, inside, inside-7e, over, over-7e, left, bodyIn, one, counts, count, endings, bodyIf, soundIn, soundBodies, openIn, countSince, endingsSince}
 use Rattle.reading.proofs.Machine.{Event, counted, closes, noises, beat, run, reach, eventsOf, eventsIn, ledger, rests, run-append, reach-append}
 
 -- COUNTS OF EVENTS
 
-abbrev pub kindOfEvent : Event → Kind
-kindOfEvent (counted k) = k
-kindOfEvent (closes v body) = kindOf v
+abbrev pub counterOfEvent : Event → Counter
+counterOfEvent (counted k) = k
+counterOfEvent (closes v body) = counterOf v
 
-unfoldable pub tally : Kind → List Event → ℕ
+unfoldable pub tally : Counter → List Event → ℕ
 tally k [] = 0
-tally k (e ∷ es) = one (same k (kindOfEvent e)) + tally k es
+tally k (e ∷ es) = one (same k (counterOfEvent e)) + tally k es
 
-pub tally-append : (k : Kind) (es fs : List Event) → tally k (es ++ fs) ≡ tally k es + tally k fs
+pub tally-append : (k : Counter) (es fs : List Event) → tally k (es ++ fs) ≡ tally k es + tally k fs
 unfolding tally
 tally-append k [] fs = omega arith
 tally-append k (e ∷ es) fs = rw (tally-append k es fs) (omega arith)
@@ -81,22 +81,22 @@ and-false : (b : Bool) → false ≡ (b && false)
 and-false true = refl
 and-false false = refl
 
-closed-tally : (k : Kind) (v : Verdict) → one (same k openings) + (one (same k (kindOf v)) + 0) ≡ one (same k openings || same k (kindOf v))
-closed-tally k runt = two (placeOf k) 0 2 (λ e. omega arith)
-closed-tally k checksum = two (placeOf k) 0 3 (λ e. omega arith)
-closed-tally k sound = two (placeOf k) 0 1 (λ e. omega arith)
+closed-tally : (k : Counter) (v : Verdict) → one (same k openings) + (one (same k (counterOf v)) + 0) ≡ one (same k openings || same k (counterOf v))
+closed-tally k runt = two (indexOf k) 0 2 (λ e. omega arith)
+closed-tally k checksum = two (indexOf k) 0 3 (λ e. omega arith)
+closed-tally k sound = two (indexOf k) 0 1 (λ e. omega arith)
 
-module _ (limit : ℕ) (check : List ℕ → ℕ) where
-  frame-tally : (k : Kind) (o : Opening) (us : List Unit) (e : Ending) → tally k (eventsOf limit check (frame o us e)) ≡ one (counts check k (frame o us e))
+module _ (rules : Rules) (check : List ℕ → ℕ) where
+  frame-tally : (k : Counter) (o : Opening) (us : List Unit) (e : Ending) → tally k (eventsOf rules check (frame o us e)) ≡ one (counts check k (frame o us e))
   unfolding tally
   frame-tally k o us closed = closed-tally k (verdict check (bodyIn us))
-  frame-tally k o us (broken-by b) = three (placeOf k) 0 6 7 (λ e. omega arith) (λ e. omega arith) (λ e. omega arith)
-  frame-tally k o us (giant-by b) = two (placeOf k) 0 4 (λ e. omega arith)
-  frame-tally k o us (escaped-by b) = two (placeOf k) 0 5 (λ e. omega arith)
+  frame-tally k o us (broken-by b) = three (indexOf k) 0 6 7 (λ e. omega arith) (λ e. omega arith) (λ e. omega arith)
+  frame-tally k o us (giant-by b) = two (indexOf k) 0 4 (λ e. omega arith)
+  frame-tally k o us (escaped-by b) = two (indexOf k) 0 5 (λ e. omega arith)
   frame-tally k o us unfinished = plus-zero (same k openings) ∙ ap one (or-false (same k openings))
   frame-tally k o us unfinished-7e = plus-zero (same k openings) ∙ ap one (or-false (same k openings))
 
-  piece-tally : (k : Kind) (p : Piece) → tally k (eventsOf limit check p) ≡ one (counts check k p)
+  piece-tally : (k : Counter) (p : Piece) → tally k (eventsOf rules check p) ≡ one (counts check k p)
   unfolding tally
   piece-tally k (outside-byte true b) = plus-zero (same k noise) ∙ ap one (and-true (same k noise))
   piece-tally k (outside-byte false b) = ap one (and-false (same k noise))
@@ -106,10 +106,10 @@ module _ (limit : ℕ) (check : List ℕ → ℕ) where
   piece-tally k (tail s us e) = refl
 
   -- a count of events is a count of pieces
-  pub tally-count : (k : Kind) (ps : List Piece) → tally k (eventsIn limit check ps) ≡ count check k ps
+  pub tally-count : (k : Counter) (ps : List Piece) → tally k (eventsIn rules check ps) ≡ count check k ps
   unfolding tally eventsIn count
   tally-count k [] = refl
-  tally-count k (p ∷ ps) = tally-append k (eventsOf limit check p) (eventsIn limit check ps) ∙ rw (piece-tally k p, tally-count k ps)
+  tally-count k (p ∷ ps) = tally-append k (eventsOf rules check p) (eventsIn rules check ps) ∙ rw (piece-tally k p, tally-count k ps)
 
   closed-bodies : (v : Verdict) (body : List ℕ) → bodies (counted openings ∷ closes v body ∷ []) ≡ bodyIf v body
   unfolding bodies
@@ -117,7 +117,7 @@ module _ (limit : ℕ) (check : List ℕ → ℕ) where
   closed-bodies checksum body = refl
   closed-bodies sound body = refl
 
-  piece-bodies : (p : Piece) → bodies (eventsOf limit check p) ≡ soundIn check p
+  piece-bodies : (p : Piece) → bodies (eventsOf rules check p) ≡ soundIn check p
   unfolding bodies
   piece-bodies (outside-byte true b) = refl
   piece-bodies (outside-byte false b) = refl
@@ -132,17 +132,17 @@ module _ (limit : ℕ) (check : List ℕ → ℕ) where
   piece-bodies (tail s us e) = refl
 
   -- the bodies handed out are those of the sound frames
-  pub bodies-sound : (ps : List Piece) → bodies (eventsIn limit check ps) ≡ soundBodies check ps
+  pub bodies-sound : (ps : List Piece) → bodies (eventsIn rules check ps) ≡ soundBodies check ps
   unfolding bodies eventsIn soundBodies
   bodies-sound [] = refl
-  bodies-sound (p ∷ ps) = bodies-append (eventsOf limit check p) (eventsIn limit check ps) ∙ rw (piece-bodies p, bodies-sound ps)
+  bodies-sound (p ∷ ps) = bodies-append (eventsOf rules check p) (eventsIn rules check ps) ∙ rw (piece-bodies p, bodies-sound ps)
 
   -- both for the machine's run from fresh, whatever the reading
-  pub tally-run : (k : Kind) (bs : List ℕ) (ps : List Piece) → Reading limit bs ps → tally k (run limit check bs (out idle)) ≡ count check k ps
-  tally-run k bs ps r = rw (ledger limit check bs ps r) (tally-count k ps)
+  pub tally-run : (k : Counter) (bs : List ℕ) (ps : List Piece) → Reading rules bs ps → tally k (run rules check bs (out idle)) ≡ count check k ps
+  tally-run k bs ps r = rw (ledger rules check bs ps r) (tally-count k ps)
 
-  pub bodies-run : (bs : List ℕ) (ps : List Piece) → Reading limit bs ps → bodies (run limit check bs (out idle)) ≡ soundBodies check ps
-  bodies-run bs ps r = rw (ledger limit check bs ps r) (bodies-sound ps)
+  pub bodies-run : (bs : List ℕ) (ps : List Piece) → Reading rules bs ps → bodies (run rules check bs (out idle)) ≡ soundBodies check ps
+  bodies-run bs ps r = rw (ledger rules check bs ps r) (bodies-sound ps)
 
   -- WHAT A STEP CAN DO TO THE BOOKS
 
@@ -157,7 +157,7 @@ module _ (limit : ℕ) (check : List ℕ → ℕ) where
     bursts : Beats 1 (counted broken ∷ counted noise ∷ []) 0
 
   abbrev Beaten : Rest → ℕ → Type 0
-  Beaten r b = Beats (openIn r) (beat limit check r b .events) (openIn (beat limit check r b .to))
+  Beaten r b = Beats (openIn r) (beat rules check r b .events) (openIn (beat rules check r b .to))
 
   beats-noises : (is : Bool) → Beats 0 (noises is) 0
   beats-noises true = noisily
@@ -173,12 +173,12 @@ module _ (limit : ℕ) (check : List ℕ → ℕ) where
   beaten-out-7e b closer e = rw e noisily
   beaten-out-7e b neither e = rw e noisily
 
-  beaten-inside : (body : List ℕ) (b : ℕ) (t u : Bool) → is7e b ≡ t → ltb (length body) limit ≡ u → Beaten (inside body) b
+  beaten-inside : (body : List ℕ) (b : ℕ) (t u : Bool) → is7e b ≡ t → ltb (length body) (rules .limit) ≡ u → Beaten (inside body) b
   beaten-inside body b true u e f = rw e still
   beaten-inside body b false true e f = rw (e, f) still
   beaten-inside body b false false e f = rw (e, f) swells
 
-  beaten-inside-7e : (body : List ℕ) (b : ℕ) (m : Meaning) (u : Bool) → meaning b ≡ m → ltb (length body) limit ≡ u → Beaten (inside-7e body) b
+  beaten-inside-7e : (body : List ℕ) (b : ℕ) (m : Meaning) (u : Bool) → meaning b ≡ m → ltb (length body) (rules .limit) ≡ u → Beaten (inside-7e body) b
   beaten-inside-7e body b datum true e f = rw (e, f) still
   beaten-inside-7e body b datum false e f = rw (e, f) slips
   beaten-inside-7e body b opener u e f = rw e bursts
@@ -198,8 +198,8 @@ module _ (limit : ℕ) (check : List ℕ → ℕ) where
   beaten : (r : Rest) (b : ℕ) → Beaten r b
   beaten (out l) b = beaten-out l b (is7e b) refl
   beaten out-7e b = beaten-out-7e b (meaning b) refl
-  beaten (inside body) b = beaten-inside body b (is7e b) (ltb (length body) limit) refl refl
-  beaten (inside-7e body) b = beaten-inside-7e body b (meaning b) (ltb (length body) limit) refl refl
+  beaten (inside body) b = beaten-inside body b (is7e b) (ltb (length body) (rules .limit)) refl refl
+  beaten (inside-7e body) b = beaten-inside-7e body b (meaning b) (ltb (length body) (rules .limit)) refl refl
   beaten over b = beaten-over b (is7e b) refl
   beaten over-7e b = beaten-over-7e b (meaning b) refl
 
@@ -219,72 +219,72 @@ module _ (limit : ℕ) (check : List ℕ → ℕ) where
   step-balance slips = refl
   step-balance bursts = refl
 
-  step-most : (k : Kind) {m n : ℕ} {es : List Event} → Beats m es n → tally k es ≤ 1
+  step-most : (k : Counter) {m n : ℕ} {es : List Event} → Beats m es n → tally k es ≤ 1
   unfolding tally
   step-most k still = omega arith
   step-most k noisily = omega (arith, one-most (same k noise))
   step-most k opens = omega (arith, one-most (same k openings))
-  step-most k (shuts {v = v}) = omega (arith, one-most (same k (kindOf v)))
+  step-most k (shuts {v = v}) = omega (arith, one-most (same k (counterOf v)))
   step-most k swells = omega (arith, one-most (same k giants))
   step-most k slips = omega (arith, one-most (same k escaped))
-  step-most k bursts = omega (arith, two (placeOf k) 6 7 (λ e. omega arith), one-most (same k broken || same k noise))
+  step-most k bursts = omega (arith, two (indexOf k) 6 7 (λ e. omega arith), one-most (same k broken || same k noise))
 
   -- over a run: what was open and what is opened has ended or is open
-  pub run-balance : (bs : List ℕ) (r : Rest) → openIn r + tally openings (run limit check bs r) ≡ ended (run limit check bs r) + openIn (reach limit check bs r)
+  pub run-balance : (bs : List ℕ) (r : Rest) → openIn r + tally openings (run rules check bs r) ≡ ended (run rules check bs r) + openIn (reach rules check bs r)
   unfolding run reach tally
   run-balance [] r = omega arith
   run-balance (b ∷ bs) r =
-      let es : List Event = beat limit check r b .events in
-      let t : Rest = beat limit check r b .to in
-      let fs : List Event = run limit check bs t in
+      let es : List Event = beat rules check r b .events in
+      let t : Rest = beat rules check r b .to in
+      let fs : List Event = run rules check bs t in
       omega (arith, run-balance bs t, step-balance (beaten r b), tally-append openings es fs, tally-append frames es fs, tally-append runts es fs, tally-append checksums es fs, tally-append giants es fs, tally-append escaped es fs, tally-append broken es fs)
 
-  pub run-most : (k : Kind) (bs : List ℕ) (r : Rest) → tally k (run limit check bs r) ≤ length bs
+  pub run-most : (k : Counter) (bs : List ℕ) (r : Rest) → tally k (run rules check bs r) ≤ length bs
   unfolding run tally
   run-most k [] r = omega arith
   run-most k (b ∷ bs) r =
-      let es : List Event = beat limit check r b .events in
-      let t : Rest = beat limit check r b .to in
-      omega (arith, run-most k bs t, step-most k (beaten r b), tally-append k es (run limit check bs t))
+      let es : List Event = beat rules check r b .events in
+      let t : Rest = beat rules check r b .to in
+      omega (arith, run-most k bs t, step-most k (beaten r b), tally-append k es (run rules check bs t))
 
   -- THE BOOKS OF A READING
 
   -- openings are the six endings, and one more if a frame is still open
-  pub balance : (bs : List ℕ) (ps : List Piece) → Reading limit bs ps → count check openings ps ≡ endings check ps + openIn (left ps)
+  pub balance : (bs : List ℕ) (ps : List Piece) → Reading rules bs ps → count check openings ps ≡ endings check ps + openIn (left ps)
   balance bs ps r =
-      rw (← tally-count openings ps, ← tally-count frames ps, ← tally-count runts ps, ← tally-count checksums ps, ← tally-count giants ps, ← tally-count escaped ps, ← tally-count broken ps, ← ledger limit check bs ps r, ← rests limit check bs ps r)
+      rw (← tally-count openings ps, ← tally-count frames ps, ← tally-count runts ps, ← tally-count checksums ps, ← tally-count giants ps, ← tally-count escaped ps, ← tally-count broken ps, ← ledger rules check bs ps r, ← rests rules check bs ps r)
       (omega (arith, run-balance bs (out idle)))
 
   -- no count is more than the bytes, so none wraps below 2^64 of them
-  pub most : (k : Kind) (bs : List ℕ) (ps : List Piece) → Reading limit bs ps → count check k ps ≤ length bs
+  pub most : (k : Counter) (bs : List ℕ) (ps : List Piece) → Reading rules bs ps → count check k ps ≤ length bs
   most k bs ps r = rw (← tally-run k bs ps r) (run-most k bs (out idle))
 
   -- more bytes add to a count what the machine counts over them from where the first leave off
-  pub count-more : (k : Kind) (g h : List ℕ) (ps qs : List Piece) → Reading limit g ps → Reading limit (g ++ h) qs
-      → count check k qs ≡ count check k ps + tally k (run limit check h (left ps))
+  pub count-more : (k : Counter) (g h : List ℕ) (ps qs : List Piece) → Reading rules g ps → Reading rules (g ++ h) qs
+      → count check k qs ≡ count check k ps + tally k (run rules check h (left ps))
   count-more k g h ps qs r s =
-      rw (← tally-run k (g ++ h) qs s, run-append limit check g h (out idle), tally-append k (run limit check g (out idle)) _, tally-run k g ps r, rests limit check g ps r)
+      rw (← tally-run k (g ++ h) qs s, run-append rules check g h (out idle), tally-append k (run rules check g (out idle)) _, tally-run k g ps r, rests rules check g ps r)
 
-  pub left-more : (g h : List ℕ) (ps qs : List Piece) → Reading limit g ps → Reading limit (g ++ h) qs → left qs ≡ reach limit check h (left ps)
-  left-more g h ps qs r s = sym (rests limit check (g ++ h) qs s) ∙ reach-append limit check g h (out idle) ∙ ap (reach limit check h) (rests limit check g ps r)
+  pub left-more : (g h : List ℕ) (ps qs : List Piece) → Reading rules g ps → Reading rules (g ++ h) qs → left qs ≡ reach rules check h (left ps)
+  left-more g h ps qs r s = sym (rests rules check (g ++ h) qs s) ∙ reach-append rules check g h (out idle) ∙ ap (reach rules check h) (rests rules check g ps r)
 
   -- no count falls
-  pub count-grows : (k : Kind) (g h : List ℕ) (ps qs : List Piece) → Reading limit g ps → Reading limit (g ++ h) qs → count check k ps ≤ count check k qs
+  pub count-grows : (k : Counter) (g h : List ℕ) (ps qs : List Piece) → Reading rules g ps → Reading rules (g ++ h) qs → count check k ps ≤ count check k qs
   count-grows k g h ps qs r s = omega (arith, count-more k g h ps qs r s)
 
   -- and more bytes add sound frames after those of the first
-  pub soundBodies-more : (g h : List ℕ) (ps qs : List Piece) → Reading limit g ps → Reading limit (g ++ h) qs
-      → soundBodies check qs ≡ soundBodies check ps ++ bodies (run limit check h (left ps))
+  pub soundBodies-more : (g h : List ℕ) (ps qs : List Piece) → Reading rules g ps → Reading rules (g ++ h) qs
+      → soundBodies check qs ≡ soundBodies check ps ++ bodies (run rules check h (left ps))
   soundBodies-more g h ps qs r s =
-      rw (← bodies-run (g ++ h) qs s, run-append limit check g h (out idle), bodies-append (run limit check g (out idle)) _, bodies-run g ps r, rests limit check g ps r)
+      rw (← bodies-run (g ++ h) qs s, run-append rules check g h (out idle), bodies-append (run rules check g (out idle)) _, bodies-run g ps r, rests rules check g ps r)
 
   -- a count since a reset is what the machine counts since
-  pub tally-since : (k : Kind) (g h : List ℕ) (ps qs : List Piece) → Reading limit g ps → Reading limit (g ++ h) qs
-      → tally k (run limit check h (left ps)) ≡ countSince check k ps qs
+  pub tally-since : (k : Counter) (g h : List ℕ) (ps qs : List Piece) → Reading rules g ps → Reading rules (g ++ h) qs
+      → tally k (run rules check h (left ps)) ≡ countSince check k ps qs
   tally-since k g h ps qs r s = omega (arith, count-more k g h ps qs r s)
 
   -- 01: "after it the balance may be off by the one frame that was open": what a reset after g leaves at g ++ h
-  pub balance-since : (g h : List ℕ) (ps qs : List Piece) → Reading limit g ps → Reading limit (g ++ h) qs
+  pub balance-since : (g h : List ℕ) (ps qs : List Piece) → Reading rules g ps → Reading rules (g ++ h) qs
       → countSince check openings ps qs + openIn (left ps) ≡ endingsSince check ps qs + openIn (left qs)
   balance-since g h ps qs r s =
       rw (← tally-since openings g h ps qs r s, ← tally-since frames g h ps qs r s, ← tally-since runts g h ps qs r s, ← tally-since checksums g h ps qs r s, ← tally-since giants g h ps qs r s, ← tally-since escaped g h ps qs r s, ← tally-since broken g h ps qs r s, left-more g h ps qs r s)

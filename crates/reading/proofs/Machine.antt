@@ -8,8 +8,8 @@ use mathlib.Core.Option.{Option, none, some}
 use lib.ListN.{length, length-map}
 use lib.Dec.{ltb}
 use Rattle.escaping.specs.Escapes.{Meaning, datum, opener, closer, neither, meaning, unescapedOf}
-use Rattle.reading.specs.Kinds.{Kind, openings, giants, escaped, broken, noise}
-use Rattle.reading.specs.Grammar.{Line, idle, noisy, Unit, pair, Opening, Ending, closed, broken-by, giant-by, escaped-by, unfinished, unfinished-7e, whole, TailEnd, at-closer, at-opener, runs-out, runs-out-7e, Piece, outside-byte, outside-pair, outside-7e, frame, tail, is7e, leadsTo, isNoise, Reading}
+use Rattle.reading.specs.Counters.{Counter, openings, giants, escaped, broken, noise}
+use Rattle.reading.specs.Grammar.{Rules, Line, idle, noisy, Unit, pair, Opening, Ending, closed, broken-by, giant-by, escaped-by, unfinished, unfinished-7e, whole, TailEnd, at-closer, at-opener, runs-out, runs-out-7e, Piece, outside-byte, outside-pair, outside-7e, frame, tail, is7e, leadsTo, isNoise, Reading}
 use Rattle.reading.specs.Counts.{Verdict, verdict, Rest, out, out-7e, inside, inside-7e, over, over-7e, restOf, leftFrom, left, value, bodyIn}
 use Rattle.reading.proofs.Reader.{Hand, clear, clear-7e, in-frame, in-frame-7e, due, in-tail, in-tail-7e, led, finish, step, pieces}
 use Rattle.reading.proofs.Unique.{unique}
@@ -17,7 +17,7 @@ use Rattle.reading.proofs.Exists.{exists}
 
 -- one is counted; a frame is closed, with its verdict and body
 pub data Event : Type 0 where
-  counted : Kind → Event
+  counted : Counter → Event
   closes : Verdict → List ℕ → Event
 
 -- a step: its events, and where it comes to rest
@@ -28,7 +28,7 @@ pub record Beat : Type 0 where
 abbrev pub silent : Rest → Beat
 silent r = record { events = []; to = r }
 
-abbrev pub counts-one : Kind → Rest → Beat
+abbrev pub counts-one : Counter → Rest → Beat
 counts-one k r = record { events = counted k ∷ []; to = r }
 
 abbrev pub noises : Bool → List Event
@@ -47,9 +47,9 @@ beatPairInTail closer = silent (out idle)
 beatPairInTail datum = silent over
 beatPairInTail neither = silent over
 
-module _ (limit : ℕ) (check : List ℕ → ℕ) where
+module _ (rules : Rules) (check : List ℕ → ℕ) where
   abbrev pub beatPairInside : List ℕ → ℕ → Meaning → Beat
-  beatPairInside body b datum = cond (ltb (length body) limit) (silent (inside (body ++ (unescapedOf b ∷ [])))) (counts-one escaped over-7e)
+  beatPairInside body b datum = cond (ltb (length body) (rules .limit)) (silent (inside (body ++ (unescapedOf b ∷ [])))) (counts-one escaped over-7e)
   beatPairInside body b closer = record { events = closes (verdict check body) body ∷ []; to = out idle }
   beatPairInside body b opener = record { events = counted broken ∷ counted noise ∷ []; to = out noisy }
   beatPairInside body b neither = record { events = counted broken ∷ counted noise ∷ []; to = out noisy }
@@ -57,7 +57,7 @@ module _ (limit : ℕ) (check : List ℕ → ℕ) where
   abbrev pub beat : Rest → ℕ → Beat
   beat (out l) b = cond (is7e b) (silent out-7e) (record { events = noises (isNoise l (leadsTo b)); to = out (leadsTo b) })
   beat out-7e b = beatPairOutside (meaning b)
-  beat (inside body) b = cond (is7e b) (silent (inside-7e body)) (cond (ltb (length body) limit) (silent (inside (body ++ (b ∷ [])))) (counts-one giants over))
+  beat (inside body) b = cond (is7e b) (silent (inside-7e body)) (cond (ltb (length body) (rules .limit)) (silent (inside (body ++ (b ∷ [])))) (counts-one giants over))
   beat (inside-7e body) b = beatPairInside body b (meaning b)
   beat over b = cond (is7e b) (silent over-7e) (silent over)
   beat over-7e b = beatPairInTail (meaning b)
@@ -134,9 +134,9 @@ module _ (limit : ℕ) (check : List ℕ → ℕ) where
 
   -- one step: the rest, the events (those of the piece in hand came when it was begun), and what the pieces leave
   record Together (h : Hand) (b : ℕ) : Type 0 where
-    to-same : beat (restWith h) b .to ≡ restWith (step limit h b .hand)
-    events-same : eventsIn (finish h) ++ beat (restWith h) b .events ≡ eventsIn (step limit h b .done) ++ eventsIn (finish (step limit h b .hand))
-    left-same : (r : Rest) → since (step limit h b .hand) (leftFrom (since h r) (step limit h b .done)) ≡ leftFrom (since h r) (step limit h b .done)
+    to-same : beat (restWith h) b .to ≡ restWith (step rules h b .hand)
+    events-same : eventsIn (finish h) ++ beat (restWith h) b .events ≡ eventsIn (step rules h b .done) ++ eventsIn (finish (step rules h b .hand))
+    left-same : (r : Rest) → since (step rules h b .hand) (leftFrom (since h r) (step rules h b .done)) ≡ leftFrom (since h r) (step rules h b .done)
 
   finish-left : (h : Hand) (r : Rest) → leftFrom (since h r) (finish h) ≡ restWith h
   unfolding leftFrom
@@ -160,7 +160,7 @@ module _ (limit : ℕ) (check : List ℕ → ℕ) where
   together-clear-7e b closer e = record { to-same = rw e; events-same = rw e; left-same = λ r. rw e }
   together-clear-7e b neither e = record { to-same = rw e; events-same = rw e; left-same = λ r. rw e }
 
-  together-frame : (o : Opening) (us : List Unit) (b : ℕ) (t u : Bool) → is7e b ≡ t → ltb (length us) limit ≡ u → Together (in-frame o us) b
+  together-frame : (o : Opening) (us : List Unit) (b : ℕ) (t u : Bool) → is7e b ≡ t → ltb (length us) (rules .limit) ≡ u → Together (in-frame o us) b
   unfolding eventsIn leftFrom
   together-frame o us b true u e f = record { to-same = rw e; events-same = rw e; left-same = λ r. rw e }
   together-frame o us b false true e f =
@@ -168,7 +168,7 @@ module _ (limit : ℕ) (check : List ℕ → ℕ) where
   together-frame o us b false false e f =
       record { to-same = rw (e, length-map us value, f); events-same = rw (e, length-map us value, f); left-same = λ r. rw (e, f) }
 
-  together-frame-7e : (o : Opening) (us : List Unit) (b : ℕ) (m : Meaning) (u : Bool) → meaning b ≡ m → ltb (length us) limit ≡ u → Together (in-frame-7e o us) b
+  together-frame-7e : (o : Opening) (us : List Unit) (b : ℕ) (m : Meaning) (u : Bool) → meaning b ≡ m → ltb (length us) (rules .limit) ≡ u → Together (in-frame-7e o us) b
   unfolding eventsIn leftFrom
   together-frame-7e o us b datum true e f =
       record { to-same = rw (e, length-map us value, f) (rw (map-append value)); events-same = rw (e, length-map us value, f); left-same = λ r. rw (e, f) }
@@ -206,42 +206,42 @@ module _ (limit : ℕ) (check : List ℕ → ℕ) where
   together : (h : Hand) (b : ℕ) → Together h b
   together (clear l) b = together-clear l b (is7e b) refl
   together clear-7e b = together-clear-7e b (meaning b) refl
-  together (in-frame o us) b = together-frame o us b (is7e b) (ltb (length us) limit) refl refl
-  together (in-frame-7e o us) b = together-frame-7e o us b (meaning b) (ltb (length us) limit) refl refl
+  together (in-frame o us) b = together-frame o us b (is7e b) (ltb (length us) (rules .limit)) refl refl
+  together (in-frame-7e o us) b = together-frame-7e o us b (meaning b) (ltb (length us) (rules .limit)) refl refl
   together due b = together-due b (meaning b) refl
   together (in-tail l us) b = together-tail l us b (is7e b) refl
   together (in-tail-7e l us) b = together-tail-7e l us b (meaning b) refl
 
   -- the events of a run are those of the pieces found
-  run-pieces : (bs : List ℕ) (h : Hand) → eventsIn (finish h) ++ run bs (restWith h) ≡ eventsIn (pieces limit bs h)
+  run-pieces : (bs : List ℕ) (h : Hand) → eventsIn (finish h) ++ run bs (restWith h) ≡ eventsIn (pieces rules bs h)
   unfolding run pieces
   run-pieces [] h = append-nil (eventsIn (finish h))
   run-pieces (b ∷ bs) h =
-      let k : Hand = step limit h b .hand in
-      let d : List Piece = step limit h b .done in
+      let k : Hand = step rules h b .hand in
+      let d : List Piece = step rules h b .done in
       let s : Together h b = together h b in
-      let ih : eventsIn (finish k) ++ run bs (restWith k) ≡ eventsIn (pieces limit bs k) = run-pieces bs k in
-      rw (s .to-same, ← append-assoc, s .events-same, append-assoc, ih, eventsIn-append d (pieces limit bs k))
+      let ih : eventsIn (finish k) ++ run bs (restWith k) ≡ eventsIn (pieces rules bs k) = run-pieces bs k in
+      rw (s .to-same, ← append-assoc, s .events-same, append-assoc, ih, eventsIn-append d (pieces rules bs k))
 
   -- and it comes to rest where they leave off
-  reach-pieces : (bs : List ℕ) (h : Hand) (r : Rest) → leftFrom (since h r) (pieces limit bs h) ≡ reach bs (restWith h)
+  reach-pieces : (bs : List ℕ) (h : Hand) (r : Rest) → leftFrom (since h r) (pieces rules bs h) ≡ reach bs (restWith h)
   unfolding reach pieces
   reach-pieces [] h r = finish-left h r
   reach-pieces (b ∷ bs) h r =
-      let k : Hand = step limit h b .hand in
-      let d : List Piece = step limit h b .done in
+      let k : Hand = step rules h b .hand in
+      let d : List Piece = step rules h b .done in
       let s : Together h b = together h b in
-      let ih : leftFrom (since k (leftFrom (since h r) d)) (pieces limit bs k) ≡ reach bs (restWith k) = reach-pieces bs k (leftFrom (since h r) d) in
-      leftFrom-append (since h r) d (pieces limit bs k) ∙ (rw (s .left-same r) at ih) ∙ ap (reach bs) (sym (s .to-same))
+      let ih : leftFrom (since k (leftFrom (since h r) d)) (pieces rules bs k) ≡ reach bs (restWith k) = reach-pieces bs k (leftFrom (since h r) d) in
+      leftFrom-append (since h r) d (pieces rules bs k) ∙ (rw (s .left-same r) at ih) ∙ ap (reach bs) (sym (s .to-same))
 
   -- whatever the reading, the machine's events from fresh are its events
-  pub ledger : (bs : List ℕ) (ps : List Piece) → Reading limit bs ps → run bs (out idle) ≡ eventsIn ps
+  pub ledger : (bs : List ℕ) (ps : List Piece) → Reading rules bs ps → run bs (out idle) ≡ eventsIn ps
   unfolding eventsIn
-  ledger bs ps r = run-pieces bs (clear idle) ∙ ap eventsIn (unique limit bs _ ps (exists limit bs) r)
+  ledger bs ps r = run-pieces bs (clear idle) ∙ ap eventsIn (unique rules bs _ ps (exists rules bs) r)
 
   -- and it comes to rest where its pieces leave off
-  pub rests : (bs : List ℕ) (ps : List Piece) → Reading limit bs ps → reach bs (out idle) ≡ left ps
-  rests bs ps r = sym (reach-pieces bs (clear idle) (out idle)) ∙ ap left (unique limit bs _ ps (exists limit bs) r)
+  pub rests : (bs : List ℕ) (ps : List Piece) → Reading rules bs ps → reach bs (out idle) ≡ left ps
+  rests bs ps r = sym (reach-pieces bs (clear idle) (out idle)) ∙ ap left (unique rules bs _ ps (exists rules bs) r)
 
   -- CUTS: a run over h and then s is a run over h ++ s
 

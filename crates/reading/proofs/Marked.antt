@@ -3,9 +3,8 @@ use mathlib.Core.Path.{_≡_, refl}
 use Prim.Native.Nat.{ℕ}
 use mathlib.Core.List.{List, [], _∷_, map}
 use Rattle.escaping.specs.Escapes.{meaning}
-use Rattle.link.specs.Wire.{bodyLimit}
 use Rattle.reading.specs.Grammar as g
-use Rattle.reading.specs.Grammar.{All}
+use Rattle.reading.specs.Grammar.{present, All}
 use Rattle.reading.specs.Counts.{count, soundBodies, leftFrom, verdict}
 use Rattle.reading.specs.Accounts.{Account, accountOf}
 use Rattle.reading.specs.Marked.{Row, Holds, marked, corners}
@@ -25,10 +24,10 @@ others a b xs ys e = cc
 module _ (check : List ℕ → ℕ) where
   -- what is found
   abbrev found : Row → Account
-  found x = accountOf check (piecesOf bodyLimit (x .bytes))
+  found x = accountOf check (piecesOf present (x .bytes))
 
   holds : (x : Row) → found x ≡ said x → Holds check x
-  holds x e = record { pieces = piecesOf bodyLimit (x .bytes); reading = the-reading bodyLimit (x .bytes); says = e }
+  holds x e = record { pieces = piecesOf present (x .bytes); reading = the-reading present (x .bytes); says = e }
 
   all-hold : (xs : List Row) → map found xs ≡ map said xs → All (Holds check) xs
   all-hold [] e = g.none

@@ -1,5 +1,5 @@
 -- Read-back: a frame within the limit, encoded, come while the line is Idle or in Noise, opens once and closes soundly with exactly its body,
--- and the line is Idle then. For any check and any limit. Assumes nothing.
+-- and the line is Idle then. For any check and any rules. Assumes nothing.
 use mathlib.Core.Path.{_≡_, refl, sym, _∙_, ap}
 use Prim.Native.Nat.{ℕ, _+_, _-_, _≤_, _<_}
 use mathlib.Core.Bool.{Bool, true, false, cond}
@@ -17,8 +17,8 @@ use Rattle.link.specs.Wire as wire
 use Rattle.address.specs.Address.{idLimit, gatewayOf, numberOf}
 use Rattle.link.specs.Wire.{Frame, startOf, checkedOf, frameOf, bodyOf, encodedOf}
 use Rattle.link.proofs.Body.{length-bodyOf, frameOf-bodyOf}
-use Rattle.reading.specs.Kinds.{Kind, openings, frames, same}
-use Rattle.reading.specs.Grammar.{Line, idle, noisy, Piece, Reading, is7e}
+use Rattle.reading.specs.Counters.{Counter, openings, frames, same}
+use Rattle.reading.specs.Grammar.{Rules, Line, idle, noisy, Piece, Reading, is7e}
 use Rattle.reading.specs.Counts.{sound, checks, verdict, Rest, out, inside, inside-7e, left, one, count, soundBodies, soundFrames}
 use Rattle.reading.proofs.Machine.{counted, closes, Beat, run, reach}
 use Rattle.reading.proofs.Books.{tally, bodies, count-more, left-more, soundBodies-more}
@@ -48,21 +48,21 @@ pub encodedOf-almostOf : (check : List ℕ → ℕ) (f : Frame) → encodedOf ch
 unfolding encodedOf almostOf
 encodedOf-almostOf check f = simp append-assoc
 
-module _ (limit : ℕ) (check : List ℕ → ℕ) where
+module _ (rules : Rules) (check : List ℕ → ℕ) where
   -- events and rest of a run
   abbrev pub goes : List ℕ → Rest → Beat
-  goes bs r = record { events = run limit check bs r; to = reach limit check bs r }
+  goes bs r = record { events = run rules check bs r; to = reach rules check bs r }
 
   -- one byte of the body
-  goes-escapedByte : (b : ℕ) (body more : List ℕ) → length body < limit → goes (escapedByte b ++ more) (inside body) ≡ goes more (inside (body ++ (b ∷ [])))
+  goes-escapedByte : (b : ℕ) (body more : List ℕ) → length body < rules .limit → goes (escapedByte b ++ more) (inside body) ≡ goes more (inside (body ++ (b ∷ [])))
   unfolding run reach
   goes-escapedByte b body more h = go (escapedByte b) (escapedByte-on b)
     where
       go : (w : List ℕ) → OnTheWire b w → goes (w ++ more) (inside body) ≡ goes more (inside (body ++ (b ∷ [])))
-      go w (itself code n) = let e : is7e b ≡ false = ne-eqb b 0x7e n in rw (e, reach, lt-ltb (length body) limit h)
-      go w (coded below m value) = rw (m, reach, lt-ltb (length body) limit h, value)
+      go w (itself code n) = let e : is7e b ≡ false = ne-eqb b 0x7e n in rw (e, reach, lt-ltb (length body) (rules .limit) h)
+      go w (coded below m value) = rw (m, reach, lt-ltb (length body) (rules .limit) h, value)
 
-  goes-escaped : (bs body more : List ℕ) → length body + length bs ≤ limit → goes (escaped bs ++ more) (inside body) ≡ goes more (inside (body ++ bs))
+  goes-escaped : (bs body more : List ℕ) → length body + length bs ≤ rules .limit → goes (escaped bs ++ more) (inside body) ≡ goes more (inside (body ++ bs))
   unfolding escaped
   goes-escaped [] body more h = rw append-nil
   goes-escaped (b ∷ bs) body more h =
@@ -71,14 +71,14 @@ module _ (limit : ℕ) (check : List ℕ → ℕ) where
 
   -- From frames and To frames open alike, in Idle and in Noise
   goes-startOf : (from : Bool) (l : Line) (more : List ℕ) → goes (cond from (0x00 ∷ 0xff ∷ 0xff ∷ 0x7e ∷ 0x07 ∷ []) (0xff ∷ 0x7e ∷ 0x07 ∷ []) ++ more) (out l)
-      ≡ record { events = counted openings ∷ run limit check more (inside []); to = reach limit check more (inside []) }
+      ≡ record { events = counted openings ∷ run rules check more (inside []); to = reach rules check more (inside []) }
   unfolding run reach meaning
   goes-startOf true idle more = refl
   goes-startOf true noisy more = refl
   goes-startOf false idle more = refl
   goes-startOf false noisy more = refl
 
-  module _ (f : Frame) (fits : length (f .payload) + 6 ≤ limit) (l : Line) where
+  module _ (f : Frame) (fits : length (f .payload) + 6 ≤ rules .limit) (l : Line) where
     -- an encoded frame: one opening, one frame closed soundly with its body, then Idle
     pub goes-encodedOf : goes (encodedOf check f) (out l) ≡ record { events = counted openings ∷ closes sound (bodyOf check f) ∷ []; to = out idle }
     unfolding run reach encodedOf meaning
@@ -96,20 +96,20 @@ module _ (limit : ℕ) (check : List ℕ → ℕ) where
 
     -- IN A READING: after bytes that leave off outside, Idle or in Noise
 
-    module _ (h : List ℕ) (ps qs : List Piece) (r : Reading limit h ps) (outside : left ps ≡ out l) (s : Reading limit (h ++ encodedOf check f) qs) where
+    module _ (h : List ℕ) (ps qs : List Piece) (r : Reading rules h ps) (outside : left ps ≡ out l) (s : Reading rules (h ++ encodedOf check f) qs) where
       -- exactly that frame is added to the sound ones
       pub read-back : gatewayOf (f .address) ≤ idLimit → soundFrames check qs ≡ soundFrames check ps ++ (f ∷ [])
       unfolding bodies
       read-back good =
-          rw (soundBodies-more limit check h (encodedOf check f) ps qs r s, outside, ap (λ (x : Beat). x .events) goes-encodedOf)
+          rw (soundBodies-more rules check h (encodedOf check f) ps qs r s, outside, ap (λ (x : Beat). x .events) goes-encodedOf)
           (map-append frameOf (soundBodies check ps) (bodyOf check f ∷ []) ∙ rw (frameOf-bodyOf check f good))
 
       -- the line is Idle then
       pub read-back-left : left qs ≡ out idle
-      read-back-left = left-more limit check h (encodedOf check f) ps qs r s ∙ rw (outside, ap (λ (x : Beat). x .to) goes-encodedOf)
+      read-back-left = left-more rules check h (encodedOf check f) ps qs r s ∙ rw (outside, ap (λ (x : Beat). x .to) goes-encodedOf)
 
       -- openings and frames move by one each, and nothing else
-      pub read-back-count : (j : Kind) → count check j qs ≡ count check j ps + (one (same j openings) + one (same j frames))
+      pub read-back-count : (j : Counter) → count check j qs ≡ count check j ps + (one (same j openings) + one (same j frames))
       unfolding tally
       read-back-count j =
-          count-more limit check j h (encodedOf check f) ps qs r s ∙ rw (outside, ap (λ (x : Beat). x .events) goes-encodedOf) (omega arith)
+          count-more rules check j h (encodedOf check f) ps qs r s ∙ rw (outside, ap (λ (x : Beat). x .events) goes-encodedOf) (omega arith)

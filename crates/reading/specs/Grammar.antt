@@ -1,12 +1,21 @@
 -- 01, "The reading of a stream", as a grammar: a list of pieces that joined make up the bytes, each piece judged by its own rule.
--- What stands in quotes is 01's, from that section. No state machine and nothing of the receiver. Over any limit on a frame's data units. Assumes nothing.
+-- What stands in quotes is 01's, from that section. No state machine and nothing of the receiver. Over any rules. Assumes nothing.
 use mathlib.Core.Path.{_≡_}
 use Prim.Native.Nat.{ℕ, _≤_}
 use mathlib.Core.Bool.{Bool, true, false, cond}
 use mathlib.Core.List.{List, [], _∷_, _++_}
 use lib.ListN.{length, drop}
 use lib.Dec.{eqb}
+use Rattle.link.specs.Wire.{bodyLimit}
 use Rattle.escaping.specs.Escapes.{Meaning, datum, opener, closer, neither, meaning}
+
+-- what a grammar is over: the most data units that a frame may have
+pub record Rules : Type 0 where
+  pub limit : ℕ
+
+-- 01's rules: "closed by 7e 08 with at most 256 data units"
+abbrev pub present : Rules
+present = record { limit = bodyLimit }
 
 -- PIECES
 
@@ -51,15 +60,19 @@ pub data Piece : Type 0 where
 
 -- THEIR BYTES
 
+-- the bytes of units: a raw one is its byte, and "7e with its next byte is a pair"
 unfoldable pub unitBytes : List Unit → List ℕ
 unitBytes [] = []
 unitBytes (raw b ∷ us) = b ∷ unitBytes us
 unitBytes (pair b ∷ us) = 0x7e ∷ b ∷ unitBytes us
 
+-- "7e 07 opens a frame"; where a tail ends with the opener, it is among the tail's bytes
 abbrev pub openerBytes : Opening → List ℕ
 openerBytes here = 0x7e ∷ 0x07 ∷ []
 openerBytes before = []
 
+-- "closed by 7e 08 .. broken by any other pair .. a 257th unit that is a raw byte .. a 257th unit that is an escape"; an unfinished frame ends
+-- with no byte of its own, or with "A lone last 7e"
 abbrev pub endingBytes : Ending → List ℕ
 endingBytes closed = 0x7e ∷ 0x08 ∷ []
 endingBytes (broken-by b) = 0x7e ∷ b ∷ []
@@ -68,6 +81,7 @@ endingBytes (escaped-by b) = 0x7e ∷ b ∷ []
 endingBytes unfinished = []
 endingBytes unfinished-7e = 0x7e ∷ []
 
+-- "up to 7e 08 (then Idle) or 7e 07"; an unfinished tail ends with no byte of its own, or with "A lone last 7e"
 abbrev pub tailEndBytes : TailEnd → List ℕ
 tailEndBytes at-closer = 0x7e ∷ 0x08 ∷ []
 tailEndBytes at-opener = 0x7e ∷ 0x07 ∷ []
@@ -79,6 +93,7 @@ abbrev pub tailBytes : Start → List ℕ → List ℕ
 tailBytes whole bs = bs
 tailBytes half bs = drop 1 bs
 
+-- the bytes of "outside byte, outside pair, frame with its units and ending, one tail after each overlong frame"
 abbrev pub pieceBytes : Piece → List ℕ
 pieceBytes (outside-byte noise b) = b ∷ []
 pieceBytes (outside-pair b) = 0x7e ∷ b ∷ []
@@ -86,12 +101,14 @@ pieceBytes outside-7e = 0x7e ∷ []
 pieceBytes (frame o us e) = openerBytes o ++ (unitBytes us ++ endingBytes e)
 pieceBytes (tail s us e) = tailBytes s (unitBytes us ++ tailEndBytes e)
 
+-- "pieces that joined make up the bytes": the bytes of one after those of another
 unfoldable pub join : List Piece → List ℕ
 join [] = []
 join (p ∷ ps) = pieceBytes p ++ join ps
 
 -- THEIR RULES
 
+-- whether a byte is 7e
 abbrev pub is7e : ℕ → Bool
 is7e b = eqb b 0x7e
 
@@ -132,6 +149,7 @@ skips neither = true
 skips opener = false
 skips closer = false
 
+-- "In the tail everything is skipped": a byte other than 7e, and a pair that does not end the tail
 abbrev pub Skipped : Unit → Type 0
 Skipped (raw b) = is7e b ≡ false
 Skipped (pair b) = skips (meaning b) ≡ true
@@ -150,6 +168,7 @@ startsWithPair [] at-opener = true
 startsWithPair [] runs-out-7e = true
 startsWithPair [] runs-out = false
 
+-- a tail starts with a whole unit or with the second half of a pair, as the frame before it says
 abbrev pub startsSo : Start → List Unit → TailEnd → Bool
 startsSo whole us e = true
 startsSo half us e = startsWithPair us e
@@ -170,20 +189,20 @@ afterTail at-opener = opened
 afterTail runs-out = nothing
 afterTail runs-out-7e = nothing
 
-module _ (limit : ℕ) where
+module _ (rules : Rules) where
   -- a frame of n data units may end so, and that follows
   pub data Ends : ℕ → Ending → Next → Type 0 where
     -- "closed by 7e 08 with at most 256 data units .. Then Idle."
-    by-closer : {n : ℕ} → n ≤ limit → Ends n closed (outside idle)
+    by-closer : {n : ℕ} → n ≤ rules .limit → Ends n closed (outside idle)
     -- "broken by any other pair, 7e 07 too: one noise, then Noise. That 7e 07 opens nothing."
-    by-break : {n b : ℕ} → n ≤ limit → breaks (meaning b) ≡ true → Ends n (broken-by b) (outside noisy)
+    by-break : {n b : ℕ} → n ≤ rules .limit → breaks (meaning b) ≡ true → Ends n (broken-by b) (outside noisy)
     -- "giant: a 257th unit that is a raw byte. Then the overlong tail."
-    by-raw : {n b : ℕ} → n ≡ limit → DataUnit (raw b) → Ends n (giant-by b) (overlong whole)
+    by-raw : {n b : ℕ} → n ≡ rules .limit → DataUnit (raw b) → Ends n (giant-by b) (overlong whole)
     -- "escaped overlong: a 257th unit that is an escape. Then the tail, whose first byte is read as the second half of a pair."
-    by-escape : {n b : ℕ} → n ≡ limit → DataUnit (pair b) → Ends n (escaped-by b) (overlong half)
+    by-escape : {n b : ℕ} → n ≡ rules .limit → DataUnit (pair b) → Ends n (escaped-by b) (overlong half)
     -- "the last unfinished if need be"; "A lone last 7e waits."
-    by-end : {n : ℕ} → n ≤ limit → Ends n unfinished nothing
-    by-end-7e : {n : ℕ} → n ≤ limit → Ends n unfinished-7e nothing
+    by-end : {n : ℕ} → n ≤ rules .limit → Ends n unfinished nothing
+    by-end-7e : {n : ℕ} → n ≤ rules .limit → Ends n unfinished-7e nothing
 
   -- the pieces that may follow
   pub data Follows : Next → List Piece → Type 0 where

@@ -2,8 +2,7 @@
 use Prim.Native.Nat.{ℕ}
 use mathlib.Core.List.{List, [], _∷_, _++_}
 use lib.ListN.{replicate}
-use Rattle.link.specs.Wire.{bodyLimit}
-use Rattle.reading.specs.Grammar.{idle, noisy}
+use Rattle.reading.specs.Grammar.{present, idle, noisy}
 use Rattle.reading.specs.Counts.{Rest, out, out-7e, inside, inside-7e, over, over-7e}
 use Rattle.reading.specs.Accounts.{Account, Tells}
 
@@ -18,7 +17,7 @@ row bs ns r = record { bytes = bs; account = record { numbers = ns; frames = [];
 
 -- the row's one reading says what the row says
 abbrev pub Holds : (List ℕ → ℕ) → Row → Type 0
-Holds check x = Tells check bodyLimit (x .bytes) (x .account)
+Holds check x = Tells check present (x .bytes) (x .account)
 
 -- 7e 07, 256 times 41
 abbrev pub full : List ℕ

@@ -12,7 +12,8 @@ use Rattle.transport.specs.declared.ReceiveRead.the-variants as read
 use Rattle.transport.specs.Response.{receiveReadOf}
 use Rattle.answers.specs.Counters
 use Rattle.answers.specs.Counters.{raise, countPackets}
-use Rattle.answers.specs.Stored.{repeats}
+use Rattle.answers.specs.Stored.{gatewayKey, repeats}
+use Rattle.answers.specs.Barred.{unlessBarred}
 use Rattle.answers.specs.declared.Answer.{Answer}
 use Rattle.answers.specs.declared.Answer.the-variants.{WrongDirection, WrongLength, NumbersFull, SlotCounterCaptured, TooShort, UnknownStatusType, UnknownGateway, SlotCounterObserved}
 
@@ -23,20 +24,27 @@ pub record Asked : Type 0 where
   pub numbers : List ℕ
   pub counters : List ℕ
 
+-- its answer, with the arrays after it
 abbrev pub asked : Answer → List ℕ → List ℕ → List ℕ → Asked
 asked a ks ns cs = record { answer = a; nkeys = ks; numbers = ns; counters = cs }
 
+-- one with a good direction and length, whose number goes to place i, if there is such a place
 abbrev pub askedAt : ℕ → List ℕ → List ℕ → List ℕ → ℕ → List ℕ → Asked
 askedAt i ks ns cs g p =
     cond (ltb i 32)
-    (asked SlotCounterCaptured (set ks i (suc g)) (set ns i (requestedNumber p)) (raise Counters.receive-requests cs))
+    (asked SlotCounterCaptured (set ks i (suc (gatewayKey g))) (set ns i (requestedNumber p)) (raise Counters.receive-requests cs))
     (asked NumbersFull ks ns cs)
 
-unfoldable pub receiveRequestIn : List ℕ → List ℕ → List ℕ → Bool → ℕ → List ℕ → Asked
-receiveRequestIn ks ns cs from g p =
+-- behind 13 and 32
+unfoldable pub capturedIn : List ℕ → List ℕ → List ℕ → Bool → ℕ → List ℕ → Asked
+capturedIn ks ns cs from g p =
     cond from (asked WrongDirection ks ns (raise Counters.invalid-receive-request cs))
-    (cond (eqb (length p) receiveRequestLength) (askedAt (seatOf ks (suc g)) ks ns cs g p)
+    (cond (eqb (length p) receiveRequestLength) (askedAt (seatOf ks (suc (gatewayKey g))) ks ns cs g p)
     (asked WrongLength ks ns (raise Counters.invalid-receive-request cs)))
+
+-- the whole of it: 13 and 32 first
+unfoldable pub receiveRequestIn : List ℕ → List ℕ → List ℕ → Bool → ℕ → List ℕ → Asked
+receiveRequestIn ks ns cs from g p = unlessBarred g p (λ a. asked a ks ns cs) (capturedIn ks ns cs from g p)
 
 -- a receive response
 pub record Received : Type 0 where
@@ -44,6 +52,7 @@ pub record Received : Type 0 where
   pub numbers : List ℕ
   pub counters : List ℕ
 
+-- its answer, with the arrays after it
 abbrev pub received : Answer → List ℕ → List ℕ → Received
 received a ns cs = record { answer = a; numbers = ns; counters = cs }
 
@@ -61,10 +70,15 @@ readIn (read.TooShort n) i ns cs p = received (TooShort n) ns (raise Counters.in
 readIn (read.UnknownStatusType s) i ns cs p = received UnknownStatusType ns (raise Counters.invalid-receive-responses cs)
 readIn (read.Response r area) i ns cs p = goodIn r area i ns cs p
 
-unfoldable pub receiveResponseIn : List ℕ → List ℕ → List ℕ → Bool → ℕ → List ℕ → Received
-receiveResponseIn ks ns cs from g p =
+-- behind 13 and 32
+unfoldable pub answeredIn : List ℕ → List ℕ → List ℕ → Bool → ℕ → List ℕ → Received
+answeredIn ks ns cs from g p =
     cond from
-    (cond (ltb (firstOf ks (suc g)) 32)
-    (readIn (receiveReadOf p (getD ns (firstOf ks (suc g)) 0)) (firstOf ks (suc g)) ns cs p)
+    (cond (ltb (firstOf ks (suc (gatewayKey g))) 32)
+    (readIn (receiveReadOf p (getD ns (firstOf ks (suc (gatewayKey g))) 0)) (firstOf ks (suc (gatewayKey g))) ns cs p)
     (received UnknownGateway ns (raise Counters.receive-response-from-unknown-gateway cs)))
     (received WrongDirection ns (raise Counters.invalid-receive-responses cs))
+
+-- the whole of it: 13 and 32 first
+unfoldable pub receiveResponseIn : List ℕ → List ℕ → List ℕ → Bool → ℕ → List ℕ → Received
+receiveResponseIn ks ns cs from g p = unlessBarred g p (λ a. received a ns cs) (answeredIn ks ns cs from g p)

@@ -5,27 +5,30 @@ ghost use lib.ListN.{length, getD};
 ghost use Rattle.transport.specs.Response.{receiveReadOf};
 ghost use Rattle.answers.specs.Counters.{countPackets};
 ghost use Rattle.answers.specs.Stored.{repeats};
-ghost use Rattle.receive_frames.specs.Receive.{Asked, receiveRequestIn, received, goodIn, readIn, receiveResponseIn};
+ghost use Rattle.receive_frames.specs.Receive.{Asked, capturedIn, receiveRequestIn, received, goodIn, readIn, answeredIn, receiveResponseIn};
+use address::GatewayID;
+use address::ID_LIMIT;
 use answers::Answer;
 use answers::counters::*;
 use answers::entries::add;
 use answers::entries::gateway_key;
 use answers::entries::raise;
+use link::PAYLOAD_LIMIT;
 use transport::PacketNumber;
 use transport::ReceiveRead;
 use transport::ReceiveResponse;
 use words::be16;
 
-// A receive request: its number is stored for the gateway. Refused by 20, 21, 25, in this order.
-pub fn receive_request(
+// A receive request that 13 and 32 do not refuse. Refused by 20, 21, 25, in this order.
+fn capture(
     nkeys: &mut [u32; 32],
     numbers: &mut [u16; 32],
     counters: &mut [u64; 33],
     from: bool,
-    gateway: u16,
+    gateway: GatewayID,
     payload: &[u8],
 ) -> Answer
-    ensures { λ r. ⌜ _≡_ {A = Asked} (record { answer = r; nkeys = now (nkeys .exit); numbers = now (numbers .exit); counters = now (counters .exit) }) (receiveRequestIn (now (nkeys .entry)) (now (numbers .entry)) (now (counters .entry)) from gateway (now (payload .entry))) ⌝ }
+    ensures { λ r. ⌜ _≡_ {A = Asked} (record { answer = r; nkeys = now (nkeys .exit); numbers = now (numbers .exit); counters = now (counters .exit) }) (capturedIn (now (nkeys .entry)) (now (numbers .entry)) (now (counters .entry)) from (gateway .0) (now (payload .entry))) ⌝ }
 {
     if from {
         raise(counters, INVALID_RECEIVE_REQUEST);
@@ -44,6 +47,26 @@ pub fn receive_request(
         return Answer::SlotCounterCaptured;
     }
     Answer::NumbersFull
+}
+
+// A receive request: its number is stored for the gateway. Refused by 13, 32, 20, 21, 25, in this order.
+pub fn receive_request(
+    nkeys: &mut [u32; 32],
+    numbers: &mut [u16; 32],
+    counters: &mut [u64; 33],
+    from: bool,
+    gateway: GatewayID,
+    payload: &[u8],
+) -> Answer
+    ensures { λ r. ⌜ _≡_ {A = Asked} (record { answer = r; nkeys = now (nkeys .exit); numbers = now (numbers .exit); counters = now (counters .exit) }) (receiveRequestIn (now (nkeys .entry)) (now (numbers .entry)) (now (counters .entry)) from (gateway .0) (now (payload .entry))) ⌝ }
+{
+    if ID_LIMIT < gateway.0 {
+        return Answer::InvalidGatewayID;
+    }
+    if PAYLOAD_LIMIT < payload.len() {
+        return Answer::PayloadTooLong;
+    }
+    capture(nkeys, numbers, counters, from, gateway, payload)
 }
 
 // Whether a response's number repeats the one stored before it.
@@ -118,16 +141,16 @@ fn known_response(
     }
 }
 
-// A receive response: its number replaces the one stored for the gateway. Refused by 20, 24, then 23 if under 2 bytes, 22, 23.
-pub fn receive_response(
+// A receive response that 13 and 32 do not refuse. Refused by 20, 24, then 23 if under 2 bytes, 22, 23.
+fn answer(
     nkeys: &[u32; 32],
     numbers: &mut [u16; 32],
     counters: &mut [u64; 33],
     from: bool,
-    gateway: u16,
+    gateway: GatewayID,
     payload: &[u8],
 ) -> Answer
-    ensures { λ r. ⌜ received r (now (numbers .exit)) (now (counters .exit)) ≡ receiveResponseIn (now (nkeys .entry)) (now (numbers .entry)) (now (counters .entry)) from gateway (now (payload .entry)) ⌝ }
+    ensures { λ r. ⌜ received r (now (numbers .exit)) (now (counters .exit)) ≡ answeredIn (now (nkeys .entry)) (now (numbers .entry)) (now (counters .entry)) from (gateway .0) (now (payload .entry)) ⌝ }
 {
     if !from {
         raise(counters, INVALID_RECEIVE_RESPONSES);
@@ -140,4 +163,24 @@ pub fn receive_response(
     }
     raise(counters, RECEIVE_RESPONSE_FROM_UNKNOWN_GATEWAY);
     Answer::UnknownGateway
+}
+
+// A receive response: its number replaces the one stored for the gateway. Refused by 13, 32, 20, 24, then 23 if under 2 bytes, 22, 23.
+pub fn receive_response(
+    nkeys: &[u32; 32],
+    numbers: &mut [u16; 32],
+    counters: &mut [u64; 33],
+    from: bool,
+    gateway: GatewayID,
+    payload: &[u8],
+) -> Answer
+    ensures { λ r. ⌜ received r (now (numbers .exit)) (now (counters .exit)) ≡ receiveResponseIn (now (nkeys .entry)) (now (numbers .entry)) (now (counters .entry)) from (gateway .0) (now (payload .entry)) ⌝ }
+{
+    if ID_LIMIT < gateway.0 {
+        return Answer::InvalidGatewayID;
+    }
+    if PAYLOAD_LIMIT < payload.len() {
+        return Answer::PayloadTooLong;
+    }
+    answer(nkeys, numbers, counters, from, gateway, payload)
 }

@@ -11,7 +11,7 @@ use Rattle.slot_counter.specs.declared.SlotEpoch.{SlotEpoch}
 use Rattle.slot_counter.specs.declared.SlotEpoch.the-variants.{Epoch0, Epoch4, Epoch8, EpochC}
 use Rattle.slot_counter.specs.declared.Since.{Since}
 use Rattle.slot_counter.specs.declared.Since.the-variants.{Slots, Bad}
-use Rattle.slot_counter.specs.Slots.{placeOf, epochAt, epochOf, numberIn, newOf, absOf, absIn, apart, slotsSinceOf}
+use Rattle.slot_counter.specs.Slots.{indexOf, epochAt, epochOf, numberIn, newOf, absOf, absIn, apart, slotsSinceOf}
 
 -- the fourteen low bits, and the two high ones
 pub low-bits : (c : ℕ) → bitAnd c 0x3fff ≡ numberIn c
@@ -20,27 +20,27 @@ low-bits c = and-mask c 14
 pub high-bits : (c : ℕ) → c < 2 ^ 16 → bitAnd c 0xc000 ≡ c / 0x4000 * 0x4000
 high-bits c h = and-high c 2 14 ∙ ap (λ (k : ℕ). k * 0x4000) (mod-eq-of-lt (omega arith))
 
--- an epoch's place leads back to it
-pub epochAt-placeOf : (e : SlotEpoch) → epochAt (placeOf e) ≡ e
+-- an epoch's index leads back to it
+pub epochAt-indexOf : (e : SlotEpoch) → epochAt (indexOf e) ≡ e
 unfolding epochAt
-epochAt-placeOf Epoch0 = refl
-epochAt-placeOf Epoch4 = refl
-epochAt-placeOf Epoch8 = refl
-epochAt-placeOf EpochC = refl
+epochAt-indexOf Epoch0 = refl
+epochAt-indexOf Epoch4 = refl
+epochAt-indexOf Epoch8 = refl
+epochAt-indexOf EpochC = refl
 
-pub placeOf-lt : (e : SlotEpoch) → placeOf e < 4
-placeOf-lt Epoch0 = omega arith
-placeOf-lt Epoch4 = omega arith
-placeOf-lt Epoch8 = omega arith
-placeOf-lt EpochC = omega arith
+pub indexOf-lt : (e : SlotEpoch) → indexOf e < 4
+indexOf-lt Epoch0 = omega arith
+indexOf-lt Epoch4 = omega arith
+indexOf-lt Epoch8 = omega arith
+indexOf-lt EpochC = omega arith
 
-pub placeOf-epochAt : (n : ℕ) → n < 4 → placeOf (epochAt n) ≡ n
+pub indexOf-epochAt : (n : ℕ) → n < 4 → indexOf (epochAt n) ≡ n
 unfolding epochAt
-placeOf-epochAt zero h = refl
-placeOf-epochAt (suc zero) h = refl
-placeOf-epochAt (suc (suc zero)) h = refl
-placeOf-epochAt (suc (suc (suc zero))) h = refl
-placeOf-epochAt (suc (suc (suc (suc n)))) h = absurd (omega arith)
+indexOf-epochAt zero h = refl
+indexOf-epochAt (suc zero) h = refl
+indexOf-epochAt (suc (suc zero)) h = refl
+indexOf-epochAt (suc (suc (suc zero))) h = refl
+indexOf-epochAt (suc (suc (suc (suc n)))) h = absurd (omega arith)
 
 -- what `epoch` sees of the masked bits
 module _ (c : ℕ) (h : c < 2 ^ 16) where
@@ -51,14 +51,14 @@ module _ (c : ℕ) (h : c < 2 ^ 16) where
   epoch-last n₀ n₁ n₂ = let b = high-bits c h in ap epochAt (omega arith)
 
   -- a counter's slots from the start of Epoch0, as `slots_since` computes them
-  pub abs-found : (e : SlotEpoch) (a : ℕ) → e ≡ epochOf c → a ≡ absOf (placeOf e) (bitAnd c 0x3fff) → a ≡ absIn c
+  pub abs-found : (e : SlotEpoch) (a : ℕ) → e ≡ epochOf c → a ≡ absOf (indexOf e) (bitAnd c 0x3fff) → a ≡ absIn c
   abs-found e a p q =
-      q ∙ rw (low-bits c) (ap (λ (k : ℕ). absOf k (numberIn c)) (ap placeOf p ∙ placeOf-epochAt (c / 0x4000) (omega arith)))
+      q ∙ rw (low-bits c) (ap (λ (k : ℕ). absOf k (numberIn c)) (ap indexOf p ∙ indexOf-epochAt (c / 0x4000) (omega arith)))
 
-pub abs-lt : (e : SlotEpoch) (n : ℕ) → n ≤ 11999 → absOf (placeOf e) n < 48000
-abs-lt e n h = omega (arith, placeOf-lt e)
+pub abs-lt : (e : SlotEpoch) (n : ℕ) → n ≤ 11999 → absOf (indexOf e) n < 48000
+abs-lt e n h = omega (arith, indexOf-lt e)
 
--- any place but the first three is the last's
+-- any index but the first three is the last's
 pub epochAt-last : (n : ℕ) → (n ≡ 0 → ⊥) → (n ≡ 1 → ⊥) → (n ≡ 2 → ⊥) → EpochC ≡ epochAt n
 unfolding epochAt
 epochAt-last n n₀ n₁ n₂ = rw (ne-eqb n 0 n₀, ne-eqb n 1 n₁, ne-eqb n 2 n₂)
@@ -68,13 +68,13 @@ pub around-four : (a b : ℕ) → (a + b) % 2 ^ 8 % 4 ≡ (a + b) % 4
 around-four a b = omega arith
 
 -- a slot number's bits stand beside the epoch's: their sum
-pub newOf-sum : (e : SlotEpoch) (n : ℕ) → n ≤ 11999 → newOf e n ≡ placeOf e * 0x4000 + n
+pub newOf-sum : (e : SlotEpoch) (n : ℕ) → n ≤ 11999 → newOf e n ≡ indexOf e * 0x4000 + n
 unfolding newOf
-newOf-sum e n h = or-shifted (placeOf e) 14 n (omega arith)
+newOf-sum e n h = or-shifted (indexOf e) 14 n (omega arith)
 
 -- so `epoch` and `slot_number` give back what `new` was given
 pub epochOf-newOf : (e : SlotEpoch) (n : ℕ) → n ≤ 11999 → epochOf (newOf e n) ≡ e
-epochOf-newOf e n h = rw (newOf-sum e n h) (ap epochAt (omega arith) ∙ epochAt-placeOf e)
+epochOf-newOf e n h = rw (newOf-sum e n h) (ap epochAt (omega arith) ∙ epochAt-indexOf e)
 
 pub numberIn-newOf : (e : SlotEpoch) (n : ℕ) → n ≤ 11999 → numberIn (newOf e n) ≡ n
 numberIn-newOf e n h = rw (newOf-sum e n h) (omega arith)

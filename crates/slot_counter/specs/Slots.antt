@@ -11,48 +11,51 @@ use Rattle.slot_counter.specs.declared.Numbered.the-variants.{Number, In
 use Rattle.slot_counter.specs.declared.Since.{Since}
 use Rattle.slot_counter.specs.declared.Since.the-variants.{Slots, Bad}
 
--- the four epochs, by their places
-abbrev pub placeOf : SlotEpoch → ℕ
-placeOf Epoch0 = 0
-placeOf Epoch4 = 1
-placeOf Epoch8 = 2
-placeOf EpochC = 3
+-- slot_counter.rs, `SlotEpoch`: Epoch0 = 0, Epoch4 = 1, Epoch8 = 2, EpochC = 3: the index of each
+abbrev pub indexOf : SlotEpoch → ℕ
+indexOf Epoch0 = 0
+indexOf Epoch4 = 1
+indexOf Epoch8 = 2
+indexOf EpochC = 3
 
+-- the epoch of an index, of the four
 unfoldable pub epochAt : ℕ → SlotEpoch
 epochAt n = cond (eqb n 0) Epoch0 (cond (eqb n 1) Epoch4 (cond (eqb n 2) Epoch8 EpochC))
 
--- the two highest of a counter's sixteen bits are its epoch's place ..
+-- slot_counter.rs, `epoch`: the two highest of a counter's sixteen bits are its epoch's index ..
 abbrev pub epochOf : ℕ → SlotEpoch
 epochOf c = epochAt (c / 0x4000)
 
--- .. and the other fourteen its slot number
+-- .. and, `slot_number`, the other fourteen its slot number
 abbrev pub numberIn : ℕ → ℕ
 numberIn c = c % 0x4000
 
--- a counter made of an epoch and a slot number: the number's bits beside the epoch's
+-- slot_counter.rs, `new`: a counter made of an epoch and a slot number: the number's bits beside the epoch's
 unfoldable pub newOf : SlotEpoch → ℕ → ℕ
-newOf e n = bitOr (placeOf e * 0x4000) n
+newOf e n = bitOr (indexOf e * 0x4000) n
 
--- slot numbers range from 0 to 11999 inclusive; a value that is over is told
+-- slot_counter.rs, `SlotNumber`: slot numbers range from 0 to 11999 inclusive; a value that is over is told
 unfoldable pub slotNumberOf : ℕ → Numbered
 slotNumberOf n = cond (leb n 11999) (Number (record { 0 = n })) (Invalid (record { 0 = n }))
 
--- addition goes around the four
+-- slot_counter.rs: SlotEpoch addition wraps: it goes around the four
 unfoldable pub addedOf : SlotEpoch → ℕ → SlotEpoch
-addedOf e n = epochAt ((placeOf e + n) % 4)
+addedOf e n = epochAt ((indexOf e + n) % 4)
 
--- an epoch has 12000 slots, and the counter repeats after 48000
+-- slot_counter.rs, `slots_since`: an epoch has 12000 slots, and the counter repeats after 48000: the slots before a slot of an epoch ..
 abbrev pub absOf : ℕ → ℕ → ℕ
-absOf place n = place * 12000 + n
+absOf index n = index * 12000 + n
 
+-- .. and before a counter's
 abbrev pub absIn : ℕ → ℕ
 absIn c = absOf (c / 0x4000) (numberIn c)
 
--- the slots from one place of the 48000 to a later one, around the end where it does not lie behind; equal places are 48000 apart
+-- slot_counter.rs, `slots_since`: the slots from one of the 48000 to a later one, around the end where it does not lie behind;
+-- equal ones are 48000 apart
 abbrev pub apart : ℕ → ℕ → ℕ
 apart now past = cond (ltb past now) (now - past) (48000 - past + now)
 
--- a bad slot number is told instead, the present counter's before the past one's
+-- slot_counter.rs, `slots_since`: a bad slot number is told instead, the present counter's before the past one's
 unfoldable pub slotsSinceOf : ℕ → ℕ → Since
 slotsSinceOf now past =
     cond (leb (numberIn now) 11999)

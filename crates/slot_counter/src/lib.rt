@@ -2,7 +2,7 @@
 ghost use mathlib.Core.Path.{_≡_};
 ghost use Prim.Native.Nat.{_≤_};
 ghost use Rattle.laws.specs.Bytes.{of16};
-ghost use Rattle.slot_counter.specs.Slots.{newOf, epochOf, slotNumberOf, numberIn, placeOf, epochAt, addedOf, absOf, slotsSinceOf};
+ghost use Rattle.slot_counter.specs.Slots.{newOf, epochOf, slotNumberOf, numberIn, indexOf, epochAt, addedOf, absOf, slotsSinceOf};
 
 // A slot counter: the epoch in the two highest bits, the slot number in the other fourteen.
 pub struct SlotCounter(pub u16);
@@ -51,11 +51,11 @@ impl SlotNumber {
     }
 }
 
-// The epoch at a place, counted from 0; any place past the third is the third.
-fn epoch_at(place: u8) -> SlotEpoch
-    ensures { λ r. ⌜ r ≡ epochAt place ⌝ }
+// The epoch of an index, counted from 0; any index past 3 is the last epoch's.
+fn epoch_at(index: u8) -> SlotEpoch
+    ensures { λ r. ⌜ r ≡ epochAt index ⌝ }
 {
-    match place {
+    match index {
         0 => SlotEpoch::Epoch0,
         1 => SlotEpoch::Epoch4,
         2 => SlotEpoch::Epoch8,
@@ -64,9 +64,9 @@ fn epoch_at(place: u8) -> SlotEpoch
 }
 
 impl SlotEpoch {
-    // Its place among the four, counted from 0.
-    pub fn place(self) -> u8
-        ensures { λ r. ⌜ r ≡ placeOf self ⌝ }
+    // Its index among the four, counted from 0.
+    pub fn index(self) -> u8
+        ensures { λ r. ⌜ r ≡ indexOf self ⌝ }
     {
         match self {
             SlotEpoch::Epoch0 => 0,
@@ -80,8 +80,8 @@ impl SlotEpoch {
     pub fn add(self, rhs: u8) -> SlotEpoch
         ensures { λ r. ⌜ r ≡ addedOf self rhs ⌝ }
     {
-        let place = self.place();
-        epoch_at(std::num::wrapping_add_u8(place, rhs) % 4)
+        let index = self.index();
+        epoch_at(std::num::wrapping_add_u8(index, rhs) % 4)
     }
 
     // The same in place: the epoch goes in and comes back changed.
@@ -95,10 +95,10 @@ impl SlotEpoch {
 // The slots from the start of Epoch0.
 fn abs_slots(epoch: SlotEpoch, number: u16) -> u16
     requires { ⌜ number ≤ 11999 ⌝ }
-    ensures { λ r. ⌜ r ≡ absOf (placeOf epoch) number ⌝ }
+    ensures { λ r. ⌜ r ≡ absOf (indexOf epoch) number ⌝ }
 {
-    let place = epoch.place();
-    (place as u16) * 12000 + number
+    let index = epoch.index();
+    (index as u16) * 12000 + number
 }
 
 impl SlotCounter {

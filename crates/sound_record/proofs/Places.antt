@@ -11,7 +11,7 @@ use Rattle.laws.specs.Bytes.{be16At}
 use Rattle.sound_record.specs.Record.{bodyStart, soundAt, recordAt, standsAt}
 use Rattle.sound_record.specs.declared.Stands.{Stands}
 use Rattle.sound_record.specs.declared.Stands.the-variants.{Record, Nothing}
-use Rattle.sound_record.proofs.Soundness.{Parts, sound-parts, not-sound}
+use Rattle.sound_record.proofs.Soundness.{bodyStart-least, sound-parts, not-sound}
 
 -- a start of a list is as many of its elements as the start has
 take-length-take : (n : ℕ) (l : List ℕ) → take (length (take n l)) l ≡ take n l
@@ -56,24 +56,34 @@ module _ (v : ℕ) (log : List ℕ) (at : ℕ) where
     pub stands-tested-not : t ≡ false → Nothing ≡ standsAt v log at
     stands-tested-not s = sym (stands-nothing (ap (soundAt v) (sym same) ∙ sym u ∙ s))
 
+-- bytes that end where their length says
+pub record Ended (r : List ℕ) : Type 0 where
+  pub least : 2 ≤ length r
+  pub whole : length r ≡ 2 + be16At r 0
+
 -- a sound record's length gives its end
-pub sound-end : (v : ℕ) (r : List ℕ) → soundAt v r ≡ true → length r ≡ 2 + be16At r 0
-sound-end v r e = sound-parts v r e .whole
+pub sound-ended : (v : ℕ) (r : List ℕ) → soundAt v r ≡ true → Ended r
+sound-ended v r e = let p = sound-parts v r e in record { least = omega (arith, p .head, bodyStart-least v); whole = p .whole }
 
 -- a record is sound at one version at most: the one that it shows
 pub one-version : (v w : ℕ) (r : List ℕ) → soundAt v r ≡ true → soundAt w r ≡ true → v ≡ w
 one-version v w r e f = sym (sound-parts v r e .version) ∙ sound-parts w r f .version
 
+-- such bytes are read off whatever follows them ..
+front : (r : List ℕ) → Ended r → (x : List ℕ) → take (2 + be16At (r ++ x) 0) (r ++ x) ≡ r
+front r e x =
+    let n : be16At (r ++ x) 0 ≡ be16At r 0 = rw (List·getD-append r x 0 0 (omega (arith, e .least)), List·getD-append r x 0 (0 + 1) (omega (arith, e .least))) in
+    rw (n, ← e .whole) (take-append-seam r x)
+
+-- .. so that no two of them start the same bytes
+pub same-front : (r s x y : List ℕ) → Ended r → Ended s → r ++ x ≡ s ++ y → r ≡ s
+same-front r s x y e f g = sym (front r e x) ∙ ap (λ (l : List ℕ). take (2 + be16At l 0) l) g ∙ front s f y
+
+-- no sound record starts another, whatever their versions: at one place of a log at most one stands
+pub one-record : (v w : ℕ) (r s x y : List ℕ) → soundAt v r ≡ true → soundAt w s ≡ true → r ++ x ≡ s ++ y → r ≡ s
+one-record v w r s x y e f g = same-front r s x y (sound-ended v r e) (sound-ended w s f) g
+
 module _ (v : ℕ) (r : List ℕ) (s : soundAt v r ≡ true) where
-  -- the length of a sound record is read off whatever follows it
-  be16At-front : (x : List ℕ) → be16At (r ++ x) 0 ≡ be16At r 0
-  be16At-front x =
-      let h = sound-parts v r s .head in
-      rw (List·getD-append r x 0 0 (omega arith), List·getD-append r x 0 (0 + 1) (omega arith))
-
-  front : (x : List ℕ) → take (2 + be16At (r ++ x) 0) (r ++ x) ≡ r
-  front x = rw (be16At-front x, ← sound-end v r s) (take-append-seam r x)
-
   -- a sound record that lies in a log stands at its place
   module _ (p x : List ℕ) where
     recordAt-within : recordAt (p ++ (r ++ x)) (length p) ≡ r
@@ -82,16 +92,12 @@ module _ (v : ℕ) (r : List ℕ) (s : soundAt v r ≡ true) where
         let z : length p + 0 ≡ length p = omega arith in
         let e : be16At (drop (length p) log) 0 ≡ be16At log (length p) = rw (getD-drop (length p) log 0 0, getD-drop (length p) log (0 + 1) 0, z) in
         let d : drop (length p) log ≡ r ++ x = drop-append-seam p (r ++ x) in
-        ap (λ (n : ℕ). take (2 + n) (drop (length p) log)) (sym e) ∙ ap (λ (l : List ℕ). take (2 + be16At l 0) l) d ∙ front x
+        ap (λ (n : ℕ). take (2 + n) (drop (length p) log)) (sym e) ∙ ap (λ (l : List ℕ). take (2 + be16At l 0) l) d ∙ front r (sound-ended v r s) x
 
     pub stands-within : standsAt v (p ++ (r ++ x)) (length p) ≡ Record (length p + length r)
     stands-within =
         stands-sound v (p ++ (r ++ x)) (length p) (ap (soundAt v) recordAt-within ∙ s)
         ∙ ap (λ (l : List ℕ). Record (length p + length l)) recordAt-within
-
--- no sound record starts another, whatever their versions: at one place of a log at most one stands
-pub one-record : (v w : ℕ) (r s x y : List ℕ) → soundAt v r ≡ true → soundAt w s ≡ true → r ++ x ≡ s ++ y → r ≡ s
-one-record v w r s x y e f g = sym (front v r e x) ∙ ap (λ (l : List ℕ). take (2 + be16At l 0) l) g ∙ front w s f y
 
 -- where a record is found, the bytes up to its end are sound, and lie within the log
 module _ (v : ℕ) (log : List ℕ) (at e : ℕ) where

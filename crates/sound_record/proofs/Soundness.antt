@@ -11,7 +11,7 @@ use Rattle.laws.specs.Bytes.{be16At}
 use Rattle.utf8.specs.Scan.{isText}
 use Rattle.network.specs.Split.{packetSize}
 use Rattle.address.specs.Address.{idLimit}
-use Rattle.sound_record.specs.Record.{bodyStart, isCounter, isBody, soundBody, whole, shows, soundAt}
+use Rattle.sound_record.specs.Record.{written, versionAt, kindAt, gatewayAt, gatewayEnd, between, bodyStart, isCounter, isBody, soundBody, whole, shows, allBelow, soundAt}
 
 -- a test that a later one implies need not be asked
 implied : (a b : Bool) → (b ≡ true → a ≡ true) → (a && b) ≡ b
@@ -106,51 +106,78 @@ module _ (v : ℕ) (b : List ℕ) where
       rw (ne-eqb k 1 h₁, ne-eqb k 2 h₂, ne-eqb k 3 h₃, ne-eqb k 4 h₄, ne-eqb k 5 h₅, ne-eqb k 6 h₆, ne-eqb k 7 h₇, ne-eqb k 8 h₈)
       (and-false (leb (length b) 1024))
 
+-- a body stands behind the gateway, in any version
+pub bodyStart-least : (v : ℕ) → gatewayEnd ≤ bodyStart v
+bodyStart-least v = omega arith
+
+-- in version 1 it stands right behind it: what is written cites this
+pub bodyStart-written : bodyStart written ≡ gatewayEnd
+unfolding between
+bodyStart-written = refl
+
+-- no other version has anything between the two either: the functions that take any version cite these
+between-none : (v : ℕ) → between v ≡ []
+unfolding between
+between-none v = refl
+
+pub bodyStart-none : (v : ℕ) → bodyStart v ≡ gatewayEnd
+bodyStart-none v = rw (between-none v)
+
+pub below-none : (v : ℕ) (bytes : List ℕ) → allBelow (between v) bytes ≡ true
+below-none v bytes = rw (between-none v)
+
+-- nor do the bodies of two versions differ
+pub soundBody-alike : (v w kind : ℕ) (b : List ℕ) → soundBody v kind b ≡ soundBody w kind b
+unfolding soundBody isBody
+soundBody-alike v w kind b = refl
+
 -- the parts of a sound record
 pub record Parts (v : ℕ) (r : List ℕ) : Type 0 where
   pub whole : length r ≡ 2 + be16At r 0
-  pub version : getD r 2 0 ≡ v
+  pub version : getD r versionAt 0 ≡ v
   pub head : bodyStart v ≤ length r
-  pub gateway : be16At r 4 ≤ 0x7fff
-  pub body : soundBody v (getD r 3 0) (drop (bodyStart v) r) ≡ true
+  pub gateway : be16At r gatewayAt ≤ 0x7fff
+  pub between : allBelow (between v) (drop gatewayEnd r) ≡ true
+  pub body : soundBody v (getD r kindAt 0) (drop (bodyStart v) r) ≡ true
 
 module _ (v : ℕ) (r : List ℕ) where
   pub sound-parts : soundAt v r ≡ true → Parts v r
   unfolding soundAt
   sound-parts e =
       let a = leb (bodyStart v) (length r) in
-      let b = leb (be16At r 4) idLimit in
-      let d = soundBody v (getD r 3 0) (drop (bodyStart v) r) in
-      let w = both (whole r) (shows v r && (a && (b && d))) e in
-      let s = both (shows v r) (a && (b && d)) (w .1) in
-      let h = both a (b && d) (s .1) in
-      let g = both b d (h .1) in
-      let n = both (ltb 0 (be16At r 0)) (ltb 2 (length r) && eqb (getD r 2 0) v) (s .0) in
-      let u = both (ltb 2 (length r)) (eqb (getD r 2 0) v) (n .1) in
+      let b = leb (be16At r gatewayAt) idLimit in
+      let m = allBelow (between v) (drop gatewayEnd r) in
+      let d = soundBody v (getD r kindAt 0) (drop (bodyStart v) r) in
+      let w = both (whole r) (shows v r && (a && (b && (m && d)))) e in
+      let s = both (shows v r) (a && (b && (m && d))) (w .1) in
+      let h = both a (b && (m && d)) (s .1) in
+      let g = both b (m && d) (h .1) in
+      let i = both m d (g .1) in
+      let n = both (ltb 0 (be16At r 0)) (ltb versionAt (length r) && eqb (getD r versionAt 0) v) (s .0) in
+      let u = both (ltb versionAt (length r)) (eqb (getD r versionAt 0) v) (n .1) in
       record {
         whole = eqb-true (length r) (2 + be16At r 0) (w .0);
-        version = eqb-true (getD r 2 0) v (u .1);
+        version = eqb-true (getD r versionAt 0) v (u .1);
         head = leb-true (bodyStart v) (length r) (h .0);
-        gateway = leb-true (be16At r 4) idLimit (g .0);
-        body = g .1;
+        gateway = leb-true (be16At r gatewayAt) idLimit (g .0);
+        between = i .0;
+        body = i .1;
       }
 
   -- where all but the body is right, the body decides
-  pub sound-body : length r ≡ 2 + be16At r 0 → getD r 2 0 ≡ v → bodyStart v ≤ length r → be16At r 4 ≤ 0x7fff
-      → soundAt v r ≡ soundBody v (getD r 3 0) (drop (bodyStart v) r)
+  pub sound-body : length r ≡ 2 + be16At r 0 → getD r versionAt 0 ≡ v → bodyStart v ≤ length r → be16At r gatewayAt ≤ 0x7fff
+      → allBelow (between v) (drop gatewayEnd r) ≡ true → soundAt v r ≡ soundBody v (getD r kindAt 0) (drop (bodyStart v) r)
   unfolding soundAt
-  sound-body w e h g =
+  sound-body w e h g m =
       rw (
         eq-eqb (length r) (2 + be16At r 0) w,
         lt-ltb 0 (be16At r 0) (omega arith),
-        lt-ltb 2 (length r) (omega arith),
-        eq-eqb (getD r 2 0) v e,
-        le-leb 6 (length r) h,
-        le-leb (be16At r 4) 0x7fff g,
+        lt-ltb versionAt (length r) (omega arith),
+        eq-eqb (getD r versionAt 0) v e,
+        le-leb (bodyStart v) (length r) h,
+        le-leb (be16At r gatewayAt) 0x7fff g,
+        m,
       )
-
-  pub parts-sound : Parts v r → soundAt v r ≡ true
-  parts-sound p = sound-body (p .whole) (p .version) (p .head) (p .gateway) ∙ p .body
 
   pub not-sound : (Parts v r → ⊥) → soundAt v r ≡ false
   not-sound h = not-true-false (soundAt v r) (λ e. h (sound-parts e))

@@ -1,7 +1,20 @@
 // Event records, a house form: whether one is sound, and whether one stands at a place of a log.
 ghost use mathlib.Core.Path.{_≡_};
 ghost use Rattle.laws.specs.Bytes.{of16};
-ghost use Rattle.sound_record.specs.Record.{written, soundBody, soundAt, standsAt};
+ghost use Rattle.sound_record.specs.Record.{written, bodyStart, soundBody, soundAt, standsAt};
+
+// The version that is written.
+pub const VERSION: u8 = 1;
+
+// Where version, kind and gateway stand in a record of any version.
+const VERSION_AT: usize = 2;
+
+const KIND_AT: usize = 3;
+
+const GATEWAY_AT: usize = 4;
+
+// Where the body starts in a record of the version that is written.
+pub const BODY_AT: usize = 6;
 
 // What stands at a place of a log.
 pub enum Stands {
@@ -64,35 +77,50 @@ pub fn sound_body(kind: u8, body: &[u8]) -> bool
     }
 }
 
-// Whether the bytes are one sound record of version 1.
-pub fn sound(bytes: &[u8]) -> bool
-    ensures { λ r. ⌜ r ≡ soundAt written (now (bytes .entry)) ⌝ }
+// Where the body starts in a record of a version.
+fn body_start(version: u8) -> usize
+    ensures { λ r. ⌜ r ≡ bodyStart version ⌝ }
 {
+    BODY_AT
+}
+
+// Whether the bytes are one sound record of a version.
+fn sound_version(version: u8, bytes: &[u8]) -> bool
+    ensures { λ r. ⌜ r ≡ soundAt version (now (bytes .entry)) ⌝ }
+{
+    let start = body_start(version);
     let n = bytes.len();
-    if n < 6 {
+    if n < start {
         return false;
     }
     if pair(bytes[0], bytes[1]) + 2 != n {
         return false;
     }
-    if bytes[2] != 1 {
+    if bytes[VERSION_AT] != version {
         return false;
     }
-    if 0x7f < bytes[4] {
+    if 0x7f < bytes[GATEWAY_AT] {
         return false;
     }
-    sound_body(bytes[3], &bytes[6..])
+    sound_body(bytes[KIND_AT], &bytes[start..])
 }
 
-// Whether a sound record of version 1 stands at a place of a log, and where it ends.
-pub fn sound_at(log: &[u8], at: usize) -> Stands
-    ensures { λ r. ⌜ r ≡ standsAt written (now (log .entry)) at ⌝ }
+// Whether the bytes are one sound record of version 1.
+pub fn sound(bytes: &[u8]) -> bool
+    ensures { λ r. ⌜ r ≡ soundAt written (now (bytes .entry)) ⌝ }
+{
+    sound_version(VERSION, bytes)
+}
+
+// Whether a sound record of a version stands at a place of a log, and where it ends.
+fn sound_version_at(version: u8, log: &[u8], at: usize) -> Stands
+    ensures { λ r. ⌜ r ≡ standsAt version (now (log .entry)) at ⌝ }
 {
     if log.len() <= at {
         return Stands::Nothing;
     }
     let left = log.len() - at;
-    if left < 6 {
+    if left < body_start(version) {
         return Stands::Nothing;
     }
     let n = pair(log[at], log[at + 1]) + 2;
@@ -100,9 +128,16 @@ pub fn sound_at(log: &[u8], at: usize) -> Stands
         return Stands::Nothing;
     }
     let end = at + n;
-    if sound(&log[at..end]) {
+    if sound_version(version, &log[at..end]) {
         Stands::Record { end }
     } else {
         Stands::Nothing
     }
+}
+
+// Whether a sound record of version 1 stands at a place of a log, and where it ends.
+pub fn sound_at(log: &[u8], at: usize) -> Stands
+    ensures { λ r. ⌜ r ≡ standsAt written (now (log .entry)) at ⌝ }
+{
+    sound_version_at(VERSION, log, at)
 }

@@ -7,16 +7,18 @@ use mathlib.Core.Option.{Option, none, some}
 use lib.ListN.{length, getD, set}
 use lib.Dec.{eqb, ltb}
 
--- 01, "Transport": tables; a place freed by a response is used again
+-- 01, "Transport": a place freed by a response is used again: a place of a table is free, or holds a key and a value
 pub data Place (A : Type 0) : Type 0 where
   free : Place A
   held : ℕ → A → Place A
 
 module _ {A : Type 0} where
+  -- whether a place holds a key
   abbrev pub holds : ℕ → Place A → Bool
   holds k free = false
   holds k (held j v) = eqb j k
 
+  -- whether a place is free
   abbrev pub isFree : Place A → Bool
   isFree free = true
   isFree (held k v) = false
@@ -30,6 +32,7 @@ module _ {A : Type 0} where
   abbrev pub holder : List (Place A) → ℕ → ℕ
   holder ps k = firstWith (holds k) ps
 
+  -- whether some place holds a key
   abbrev pub isHeld : List (Place A) → ℕ → Bool
   isHeld ps k = ltb (holder ps k) (length ps)
 
@@ -45,14 +48,15 @@ module _ {A : Type 0} where
   abbrev pub seat : List (Place A) → ℕ → ℕ
   seat ps k = cond (isHeld ps k) (holder ps k) (vacancy ps)
 
-  -- an entry stored under its key, replacing an older one there
+  -- 01, "Transport": kept under gateway and sequence, replacing an older one there: an entry stored under its key
   abbrev pub stored : List (Place A) → ℕ → A → List (Place A)
   stored ps k v = set ps (seat ps k) (held k v)
 
-  -- an entry taken out: its place is free
+  -- 01, "Transport": a response takes its request out: its place is free
   abbrev pub removed : List (Place A) → ℕ → List (Place A)
   removed ps k = set ps (holder ps k) free
 
+  -- what a place holds
   abbrev pub valueIn : Place A → Option A
   valueIn free = none
   valueIn (held k v) = some v
@@ -65,10 +69,11 @@ module _ {A : Type 0} where
   abbrev pub Distinct : List (Place A) → Type 0
   Distinct ps = (i j k : ℕ) → holds k (getD ps i free) ≡ true → holds k (getD ps j free) ≡ true → i ≡ j
 
-  -- a finite map as the source has it (`BTreeMap`), by what a look-up gives: after an insert, and after a remove
+  -- a finite map as the source has it (`BTreeMap`), by what a look-up gives: after an insert ..
   abbrev pub inserted : (ℕ → Option A) → ℕ → A → ℕ → Option A
   inserted m k v j = cond (eqb j k) (some v) (m j)
 
+  -- .. and after a remove
   abbrev pub deleted : (ℕ → Option A) → ℕ → ℕ → Option A
   deleted m k j = cond (eqb j k) none (m j)
 
@@ -82,5 +87,6 @@ module _ {A : Type 0} where
   placesFrom values i [] = []
   placesFrom values i (k ∷ ks) = placeOf k (values i) ∷ placesFrom values (suc i) ks
 
+  -- the table that keys and values mean, from the first place on
   abbrev pub placesOf : List ℕ → (ℕ → A) → List (Place A)
   placesOf keys values = placesFrom values 0 keys

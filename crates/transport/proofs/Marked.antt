@@ -7,7 +7,7 @@ use Rattle.transport.specs.Status.{neededOf}
 use Rattle.transport.specs.Number.{interpretOf}
 use Rattle.transport.specs.Marked.{Row, low, marked, claimed}
 
--- every row of the table is right
-pub marked-right : (k : ℕ) → k < length marked → T (claimed k (getD marked k (low 0 0 0)))
+-- every row of the table is right: crates/promises joins these rows to those of streams
+pub marked-right : (k : ℕ) → k < length marked → T (claimed (getD marked k (low 0 0 0)))
 unfolding claimed interpretOf neededOf
-marked-right = entry claimed (low 0 0 0) marked tt
+marked-right = entry (λ (k : ℕ) (x : Row). claimed x) (low 0 0 0) marked tt

@@ -6,7 +6,7 @@ use lib.Dec.{eqb}
 use Rattle.transport.specs.Status.{acceptedOf, neededOf}
 use Rattle.transport.specs.Number.{interpretOf}
 
--- low l after old gives new; status s needs n; status s is refused by number
+-- the three forms of 01's rows: low l after old gives new; status s needs n; status s is refused by number
 pub data Row : Type 0 where
   low : ℕ → ℕ → ℕ → Row
   needs : ℕ → ℕ → Row
@@ -29,7 +29,7 @@ abbrev pub statusRefusal : ℕ → ℕ
 statusRefusal status = cond (acceptedOf status) 0 22
 
 -- what a row claims. A status word that needs so many bytes is an accepted one
-unfoldable pub claimed : ℕ → Row → Bool
-claimed i (low l old new) = eqb (interpretOf l old) new
-claimed i (needs s n) = cond (acceptedOf s) (eqb (neededOf s) n) false
-claimed i (refuses s number) = eqb (statusRefusal s) number
+unfoldable pub claimed : Row → Bool
+claimed (low l old new) = eqb (interpretOf l old) new
+claimed (needs s n) = cond (acceptedOf s) (eqb (neededOf s) n) false
+claimed (refuses s number) = eqb (statusRefusal s) number

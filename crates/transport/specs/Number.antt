@@ -11,7 +11,7 @@ use Rattle.transport.specs.Status.{clear, numberAt}
 unfoldable pub interpretOf : ℕ → ℕ → ℕ
 interpretOf lo old = of16 (cond (leb (old % 256) lo) (old / 256) ((old / 256 + 1) % 256)) lo
 
--- 01: the packet number, two bytes, or one if 0x10 is set
+-- 01, "Transport": the packet number, two bytes, or one if 0x10 is set
 unfoldable pub numberOf : ℕ → List ℕ → ℕ → ℕ
 numberOf status payload old =
     cond (clear status 0x10) (be16At payload (numberAt status)) (interpretOf (getD payload (numberAt status) 0) old)

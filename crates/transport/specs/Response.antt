@@ -23,7 +23,8 @@ byteIn there p at = cond there (One (getD p at 0)) NoByte
 abbrev pub pairIn : Bool → List ℕ → ℕ → OptionalPair
 pairIn there p at = cond there (Two (getD p at 0) (getD p (at + 1) 0)) NoPair
 
--- the fields of a response with this status word, after the packet number old
+-- 01, "Transport": fields follow, then the packet number, then slot counter: those of a response with this status
+-- word, after the packet number old
 unfoldable pub responseIn : ℕ → List ℕ → ℕ → ReceiveResponse
 responseIn status p old =
     record {
@@ -49,7 +50,7 @@ pub data Told : Type 0 where
   refused : ℕ → ℕ → Told
   fields : ReceiveResponse → ℕ → Told
 
--- 22 goes with the status word, 23 with the length needed
+-- 01, "Numbers handed back", 23: gives the length needed; 22 goes with the status word
 abbrev pub handedRead : ReceiveRead → Told
 handedRead (Response r area) = fields r area
 handedRead (TooShort n) = refused 23 n

@@ -9,37 +9,42 @@ use lib.Dec.{eqb}
 abbrev pub acceptedOf : ℕ → Bool
 acceptedOf status = eqb (bitAnd status 0x00e0) 0x00e0
 
--- 01: fields follow, each present while its bit is clear
+-- 01, "Transport": fields follow, each present while its bit is clear
 abbrev pub clear : ℕ → ℕ → Bool
 clear status bit = eqb (bitAnd status bit) 0
 
+-- how many bytes a field takes: its size if it is present, else none
 abbrev pub fieldSize : ℕ → ℕ → ℕ → ℕ
 fieldSize status bit size = cond (clear status bit) size 0
 
--- where each starts, behind the status word's two bytes: 0x01 one byte, 0x02 one, 0x04 two, 0x08 two ..
+-- 01, "Transport": 0x01 one byte: it starts behind the status word's two ..
 abbrev pub rxBuffersUsedAt : ℕ → ℕ
 rxBuffersUsedAt status = 2
 
+-- .. 0x02 one: where it starts, behind the field before, if that is present ..
 abbrev pub txBuffersFreeAt : ℕ → ℕ
 txBuffersFreeAt status = rxBuffersUsedAt status + fieldSize status 0x01 1
 
+-- .. 0x04 two ..
 abbrev pub unknownAAt : ℕ → ℕ
 unknownAAt status = txBuffersFreeAt status + fieldSize status 0x02 1
 
+-- .. 0x08 two ..
 abbrev pub unknownBAt : ℕ → ℕ
 unknownBAt status = unknownAAt status + fieldSize status 0x04 2
 
+-- .. then the packet number ..
 abbrev pub numberAt : ℕ → ℕ
 numberAt status = unknownBAt status + fieldSize status 0x08 2
 
--- .. then the packet number, two bytes, or one if 0x10 is set ..
+-- .. two bytes, or one if 0x10 is set; then slot counter ..
 abbrev pub slotCounterAt : ℕ → ℕ
 slotCounterAt status = numberAt status + cond (clear status 0x10) 2 1
 
--- .. then slot counter, two. The rest is the packet area: the length needed is where it starts, the sum of all these fields
+-- .. two. The rest is the packet area: the length needed is where it starts, the sum of all these fields
 unfoldable pub neededOf : ℕ → ℕ
 neededOf status = slotCounterAt status + 2
 
--- 01: the length needed is 12 less the ones among 0x13 less twice the ones among 0x0c
+-- 01, "Transport": the length needed is 12 less the ones among 0x13 less twice the ones among 0x0c
 abbrev pub neededByOnes : ℕ → ℕ
 neededByOnes status = 12 - ones (bitAnd status 0x13) - 2 * ones (bitAnd status 0x0c)

@@ -11,6 +11,9 @@ mod receive_response;
 // The number of a packet, as a gateway counts them.
 pub struct PacketNumber(pub u16);
 
+// The number that ties a command's response to its request.
+pub struct CommandSequenceNumber(pub u8);
+
 // Whether a receive response may start with this status word: all of 0x00e0 is set.
 pub fn accepted(status: u16) -> bool
     ensures { λ r. ⌜ r ≡ acceptedOf status ⌝ }

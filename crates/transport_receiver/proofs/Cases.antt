@@ -16,22 +16,22 @@ use Rattle.transport_receiver.specs.Step.{Outcome, isRefusal, Result, Ro
 
 module _ (P : Result → Type 0) (s : State) (f : Frame) where
   pub accepted-cases :
-      (f .kind ≡ Types.receive-request → P (captured s f))
-      → (f .kind ≡ Types.receive-response → P (received s f (numberIn (valueAt (s .numbers) (f .gateway))) (drop (neededOf (statusOf f)) (f .payload))))
-      → (f .kind ≡ Types.command-request → P (kept s f))
-      → (f .kind ≡ Types.command-response → P (executed s f))
+      (f .frameType ≡ Types.receive-request → P (captured s f))
+      → (f .frameType ≡ Types.receive-response → P (received s f (numberIn (valueAt (s .numbers) (f .gateway))) (drop (neededOf (statusOf f)) (f .payload))))
+      → (f .frameType ≡ Types.command-request → P (kept s f))
+      → (f .frameType ≡ Types.command-response → P (executed s f))
       → ((o : Outcome) (i : ℕ) → isRefusal o ≡ false → P (counted s o i))
       → P (accepted s f)
   accepted-cases p1 p2 p3 p4 p =
-      by (eqb (f .kind) Types.receive-request) (λ e. rw e (p1 (eqb-true _ _ e)))
-      (λ e1. by (eqb (f .kind) Types.receive-response) (λ e. rw (e1, e) (p2 (eqb-true _ _ e)))
-      (λ e2. by (eqb (f .kind) Types.command-request) (λ e. rw (e1, e2, e) (p3 (eqb-true _ _ e)))
-      (λ e3. by (eqb (f .kind) Types.command-response) (λ e. rw (e1, e2, e3, e) (p4 (eqb-true _ _ e)))
-      (λ e4. by (eqb (f .kind) Types.enumeration-start-request) (λ e. rw (e1, e2, e3, e4, e) (p _ _ refl))
-      (λ e5. by (eqb (f .kind) Types.enumeration-response) (λ e. rw (e1, e2, e3, e4, e5, e) (p _ _ refl))
-      (λ e6. by (eqb (f .kind) Types.identify-response) (λ e. rw (e1, e2, e3, e4, e5, e6, e) (p _ _ refl))
-      (λ e7. by (eqb (f .kind) Types.version-response) (λ e. rw (e1, e2, e3, e4, e5, e6, e7, e) (p _ _ refl))
-      (λ e8. by (eqb (f .kind) Types.enumeration-end-response) (λ e. rw (e1, e2, e3, e4, e5, e6, e7, e8, e) (p _ _ refl))
+      by (eqb (f .frameType) Types.receive-request) (λ e. rw e (p1 (eqb-true _ _ e)))
+      (λ e1. by (eqb (f .frameType) Types.receive-response) (λ e. rw (e1, e) (p2 (eqb-true _ _ e)))
+      (λ e2. by (eqb (f .frameType) Types.command-request) (λ e. rw (e1, e2, e) (p3 (eqb-true _ _ e)))
+      (λ e3. by (eqb (f .frameType) Types.command-response) (λ e. rw (e1, e2, e3, e) (p4 (eqb-true _ _ e)))
+      (λ e4. by (eqb (f .frameType) Types.enumeration-start-request) (λ e. rw (e1, e2, e3, e4, e) (p _ _ refl))
+      (λ e5. by (eqb (f .frameType) Types.enumeration-response) (λ e. rw (e1, e2, e3, e4, e5, e) (p _ _ refl))
+      (λ e6. by (eqb (f .frameType) Types.identify-response) (λ e. rw (e1, e2, e3, e4, e5, e6, e) (p _ _ refl))
+      (λ e7. by (eqb (f .frameType) Types.version-response) (λ e. rw (e1, e2, e3, e4, e5, e6, e7, e) (p _ _ refl))
+      (λ e8. by (eqb (f .frameType) Types.enumeration-end-response) (λ e. rw (e1, e2, e3, e4, e5, e6, e7, e8, e) (p _ _ refl))
       (λ e9. rw (e1, e2, e3, e4, e5, e6, e7, e8, e9) (p _ _ refl))))))))))
 
   -- a judged frame is accepted, or refused by one of the rows

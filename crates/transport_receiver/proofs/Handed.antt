@@ -7,7 +7,7 @@ use native.Mathlib.Omega.{arith}
 use lib.Dec.{eqb}
 use Rattle.laws.proofs.Cases.{never}
 use Rattle.transport_receiver.specs.State.{Frame}
-use Rattle.transport_receiver.specs.Step.{isRefusal, Outcome, refused, short, silent, event}
+use Rattle.transport_receiver.specs.Step.{isRefusal, Outcome, refused, refused-with, silent, event}
 use Rattle.transport_receiver.specs.Handed.{handed}
 use Rattle.answers.specs.declared.Answer.{Answer}
 use Rattle.answers.specs.declared.Answer.the-variants.{OverLimit, InvalidGatewayID, WrongDirection, WrongLength, UnknownStatusType, TooShort, UnknownGateway, NumbersFull, SequencesFull, CommandsFull, NamesFrom, InvalidVersion, NoRequest, UnhandledType, PayloadTooLong, Counted, CommandKept, EnumerationStarted, IdentityObserved, VersionObserved, EnumerationEnded, SlotCounterCaptured, SlotCounterObserved, CommandExecuted}
@@ -30,7 +30,7 @@ refusalOf (refused n) =
     (cond (eqb n 31) UnhandledType
     (cond (eqb n 32) PayloadTooLong
     Counted)))))))))))))
-refusalOf (short n) = TooShort n
+refusalOf (refused-with k n) = TooShort n
 refusalOf silent = Counted
 refusalOf (event e) = Counted
 

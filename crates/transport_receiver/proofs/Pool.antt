@@ -12,9 +12,9 @@ use Rattle.laws.proofs.Cases.{by}
 use Rattle.tables.specs.Keys.{firstOf, seatOf, overOf}
 use Rattle.tables.specs.Places.{Place, free, held, placeOf, placesFrom, placesOf, stored}
 use Rattle.tables.proofs.Places.{stored-places}
-use Rattle.answers.specs.Stored.{commandKey}
 use Rattle.transport_receiver.specs.State.{Command, commandIn, payloadAt, roomOfCommand}
 use Rattle.transport_receiver.specs.Step.{isOver, overLimit}
+use Rattle.transport_receiver.specs.Lent.{requestPayload}
 
 -- what is pasted changes no element before it and none behind it
 module _ (d : List ℕ) (at : ℕ) (s : List ℕ) (n : ℕ) (fits : at + n ≤ length d) (has : n ≤ length s) where
@@ -115,7 +115,7 @@ module _ (keys types lengths pool : List ℕ) (k t : ℕ) (q : List ℕ) (tn : l
   i = seatOf keys (suc k)
 
   abbrev command : Command
-  command = record { kind = t; size = length q; payload = q }
+  command = record { packetType = t; size = length q; payload = q }
 
   pub stored-commands : overOf keys lengths 245 ≡ false → seatOf keys (suc k) < 64 → length q ≤ 245 → placesOf (set keys i (suc k)) (commandIn (set types i t) (set lengths i (length q)) (paste pool (i * 245) q (length q))) ≡ stored (placesOf keys (commandIn types lengths pool)) k command
   stored-commands within place few = stored-places (commandIn types lengths pool) (commandIn (set types i t) (set lengths i (length q)) (paste pool (i * 245) q (length q))) keys k command same other
@@ -127,6 +127,7 @@ module _ (keys types lengths pool : List ℕ) (k t : ℕ) (q : List ℕ) (tn : l
       other j ne full =
           rw (getD-set-other types i j t 0 ne, getD-set-other lengths i j (length q) 0 ne, payload-other pool i q pn place few j (getD lengths j 0) ne (held-low keys lengths 245 within j (inside keys j full) full))
 
--- gateway and sequence as one number say both: two commands under one key have one gateway and one sequence
-pub commandKey-apart : (g h s t : ℕ) → s < 256 → t < 256 → commandKey g s ≡ commandKey h t → (g ≡ h) × (s ≡ t)
-commandKey-apart g h s t a b e = (omega arith, omega arith)
+-- what `request_payload` gives is the payload that the tables hold, for every place and every length that a state within its limits has
+pub requestPayload-held : (pool : List ℕ) (place size : ℕ) → place < 64 → size ≤ 245 → requestPayload pool place size ≡ payloadAt pool place size
+unfolding requestPayload
+requestPayload-held pool place size p n = rw (lt-ltb place 64 p, le-ltb 245 size n)

@@ -21,13 +21,13 @@ use Rattle.answers.specs.Counters
 use Rattle.answers.specs.Types
 use Rattle.answers.specs.Types.{counterOf}
 use Rattle.answers.specs.Stored.{commandKey}
-use Rattle.receive_frames.specs.Receive.{receiveRequestIn, receiveResponseIn, goodIn}
-use Rattle.command_frames.specs.Command.{isLastIn, noteIn, keepIn, commandRequestIn, commandResponseIn}
-use Rattle.plain_frames.specs.Plain.{identityIn, enumerationEndIn, versionIn, enumerationStartIn, countIn, untabledIn}
+use Rattle.receive_frames.specs.Receive.{capturedIn, receiveRequestIn, answeredIn, receiveResponseIn, goodIn}
+use Rattle.command_frames.specs.Command.{isLastIn, noteIn, keepIn, askedIn, commandRequestIn, finishedIn, commandResponseIn}
+use Rattle.plain_frames.specs.Plain.{identityIn, enumerationEndIn, versionIn, enumerationStartIn, countIn, byTypeIn, untabledIn}
 use Rattle.transport_receiver.specs.State.{State, Frame, stateOf, commandIn}
 use Rattle.transport_receiver.specs.Step.{Result, stepOf, handledOf, isLast, overLimit, resetOf}
 use Rattle.transport_receiver.specs.Handed.{told, toldReset}
-use Rattle.transport_receiver.specs.Lent.{notedOf, seatedOf, afterAsked, afterCounted, afterRequested, afterAnswered, afterReceived, handledIn, stepIn, clearedOf}
+use Rattle.transport_receiver.specs.Lent.{notedOf, seatedOf, afterAsked, afterCounted, afterRequested, afterAnswered, afterReceived, handledIn, stepIn, resetIn}
 use Rattle.transport_receiver.specs.declared.Receiver.{Receiver}
 use Rattle.transport_receiver.proofs.Pool.{overLimit-places, stored-commands}
 use Rattle.laws.proofs.Cases.{by}
@@ -45,7 +45,7 @@ pub record Sized (r : Receiver) : Type 0 where
   pub counters : length (r .counters) ≡ 33
 
 abbrev frame : Bool → ℕ → ℕ → List ℕ → Frame
-frame from g kind p = record { from = from; gateway = g; kind = kind; payload = p }
+frame from g frameType p = record { from = from; gateway = g; frameType = frameType; payload = p }
 
 -- whether a sequence is the gateway's last is asked of the seat
 module _ (keys sequences : List ℕ) (g s : ℕ) where
@@ -97,8 +97,8 @@ module _ (r : Receiver) (from : Bool) (g : ℕ) (p : List ℕ) where
       (λ l. rw (e, z, l)))
       (λ z. rw (e, z)))
 
-  receive-request : Sized r → told (frame from g Types.receive-request p) (afterAsked r (receiveRequestIn (r .nkeys) (r .numbers) (r .counters) from g p)) ≡ handledOf (stateOf r) (frame from g Types.receive-request p)
-  unfolding handledOf receiveRequestIn stateOf
+  receive-request : Sized r → told (frame from g Types.receive-request p) (afterAsked r (capturedIn (r .nkeys) (r .numbers) (r .counters) from g p)) ≡ handledOf (stateOf r) (frame from g Types.receive-request p)
+  unfolding handledOf capturedIn stateOf
   receive-request z =
       by from (λ e. rw e)
       (λ e. by (eqb (length p) 5)
@@ -113,25 +113,24 @@ module _ (r : Receiver) (from : Bool) (g : ℕ) (p : List ℕ) where
   abbrev key : ℕ
   key = commandKey g (getD p 4 0)
 
-  command-request : Sized r → overOf (r .ckeys) (r .clengths) 245 ≡ false → length p ≤ 250 → told (frame from g Types.command-request p) (afterRequested r (commandRequestIn (notedOf r) (seatedOf r) from g p)) ≡ handledOf (stateOf r) (frame from g Types.command-request p)
-  unfolding handledOf commandRequestIn noteIn keepIn stateOf
+  command-request : Sized r → overOf (r .ckeys) (r .clengths) 245 ≡ false → length p ≤ 250 → told (frame from g Types.command-request p) (afterRequested r (askedIn (notedOf r) (seatedOf r) from g p)) ≡ handledOf (stateOf r) (frame from g Types.command-request p)
+  unfolding handledOf askedIn noteIn keepIn stateOf
   command-request z within few =
-      let fits = le-ltb 250 (length p) few in
       let hs = hasRoom-places (λ i. getD (r .sequences) i 0) (r .skeys) g in
       let hc = hasRoom-places (commandIn (r .ctypes) (r .clengths) (r .cpayloads)) (r .ckeys) key in
       let kept-command : ltb (seatOf (r .ckeys) (suc key)) 64 ≡ true → _ = λ b. stored-commands (r .ckeys) (r .ctypes) (r .clengths) (r .cpayloads) key (getD p 3 0) (drop 5 p) (z .ctypes) (z .clengths) (z .cpayloads) (z .ckeys) within (ltb-true _ _ b) (omega (arith, length-drop 5 p)) in
-      by from (λ e. rw (fits, e))
-      (λ e. by (ltb (length p) 5) (λ l. rw (fits, e, l))
+      by from (λ e. rw e)
+      (λ e. by (ltb (length p) 5) (λ l. rw (e, l))
       (λ l. by (ltb q 32)
       (λ a. by (ltb (seatOf (r .ckeys) (suc key)) 64)
       (λ b. by (isLastIn (r .skeys) (r .sequences) q (suc g) (getD p 4 0))
-      (λ t. rw (fits, e, l, hs, z .skeys, a, hc, z .ckeys, b, last (r .skeys) (r .sequences) g (getD p 4 0) (rw (z .skeys) (ltb-true _ _ a)), t) (rw (← stored-again (r .skeys) (r .sequences) g (getD p 4 0) (z .sequences ∙ sym (z .skeys)) (last-parts (r .skeys) (r .sequences) g (getD p 4 0) t .0) (last-parts (r .skeys) (r .sequences) g (getD p 4 0) t .1) (rw (z .skeys) (ltb-true _ _ a)), kept-command b)))
-      (λ t. rw (fits, e, l, hs, z .skeys, a, hc, z .ckeys, b, last (r .skeys) (r .sequences) g (getD p 4 0) (rw (z .skeys) (ltb-true _ _ a)), t) (rw (stored-numbers (r .skeys) (r .sequences) g (getD p 4 0) (z .sequences ∙ sym (z .skeys)) (rw (z .skeys) (ltb-true _ _ a)), kept-command b))))
-      (λ b. rw (fits, e, l, hs, z .skeys, a, hc, z .ckeys, b)))
-      (λ a. rw (fits, e, l, hs, z .skeys, a))))
+      (λ t. rw (e, l, hs, z .skeys, a, hc, z .ckeys, b, last (r .skeys) (r .sequences) g (getD p 4 0) (rw (z .skeys) (ltb-true _ _ a)), t) (rw (← stored-again (r .skeys) (r .sequences) g (getD p 4 0) (z .sequences ∙ sym (z .skeys)) (last-parts (r .skeys) (r .sequences) g (getD p 4 0) t .0) (last-parts (r .skeys) (r .sequences) g (getD p 4 0) t .1) (rw (z .skeys) (ltb-true _ _ a)), kept-command b)))
+      (λ t. rw (e, l, hs, z .skeys, a, hc, z .ckeys, b, last (r .skeys) (r .sequences) g (getD p 4 0) (rw (z .skeys) (ltb-true _ _ a)), t) (rw (stored-numbers (r .skeys) (r .sequences) g (getD p 4 0) (z .sequences ∙ sym (z .skeys)) (rw (z .skeys) (ltb-true _ _ a)), kept-command b))))
+      (λ b. rw (e, l, hs, z .skeys, a, hc, z .ckeys, b)))
+      (λ a. rw (e, l, hs, z .skeys, a))))
 
-  command-response : Sized r → told (frame from g Types.command-response p) (afterAnswered r (commandResponseIn (r .ckeys) (r .ctypes) (r .clengths) (r .counters) from g p)) ≡ handledOf (stateOf r) (frame from g Types.command-response p)
-  unfolding handledOf commandResponseIn stateOf
+  command-response : Sized r → told (frame from g Types.command-response p) (afterAnswered r (finishedIn (r .ckeys) (r .ctypes) (r .clengths) (r .counters) from g p)) ≡ handledOf (stateOf r) (frame from g Types.command-response p)
+  unfolding handledOf finishedIn stateOf
   command-response z =
       let hc = isHeld-places (commandIn (r .ctypes) (r .clengths) (r .cpayloads)) (r .ckeys) key in
       by from
@@ -141,8 +140,8 @@ module _ (r : Receiver) (from : Bool) (g : ℕ) (p : List ℕ) where
       (λ t. rw (e, l, hc, z .ckeys, t))))
       (λ e. rw e)
 
-  receive-response : Sized r → told (frame from g Types.receive-response p) (afterReceived r (receiveResponseIn (r .nkeys) (r .numbers) (r .counters) from g p)) ≡ handledOf (stateOf r) (frame from g Types.receive-response p)
-  unfolding handledOf receiveResponseIn receiveReadOf responseIn goodIn stateOf
+  receive-response : Sized r → told (frame from g Types.receive-response p) (afterReceived r (answeredIn (r .nkeys) (r .numbers) (r .counters) from g p)) ≡ handledOf (stateOf r) (frame from g Types.receive-response p)
+  unfolding handledOf answeredIn receiveReadOf responseIn goodIn stateOf
   receive-response z =
       let i = firstOf (r .nkeys) (suc g) in
       let hn = isHeld-places (λ i. getD (r .numbers) i 0) (r .nkeys) g in
@@ -158,107 +157,107 @@ module _ (r : Receiver) (from : Bool) (g : ℕ) (p : List ℕ) where
       (λ e. rw e)
 
 -- any type, the eighteen one by one and then the rest
-module _ (r : Receiver) (z : Sized r) (within : overOf (r .ckeys) (r .clengths) 245 ≡ false) (from : Bool) (g : ℕ) (p : List ℕ) (few : length p ≤ 250) where
+module _ (r : Receiver) (z : Sized r) (within : overOf (r .ckeys) (r .clengths) 245 ≡ false) (from : Bool) (g : ℕ) (p : List ℕ) (b : ltb 0x7fff g ≡ false) (c : ltb 250 (length p) ≡ false) where
   abbrev Refined : ℕ → Type 0
-  Refined kind = told (frame from g kind p) (handledIn r (frame from g kind p)) ≡ handledOf (stateOf r) (frame from g kind p)
+  Refined frameType = told (frame from g frameType p) (handledIn r (frame from g frameType p)) ≡ handledOf (stateOf r) (frame from g frameType p)
 
-  abbrev at : (kind : ℕ) {P : Type 0} (t : ℕ) → (kind ≡ t → P) → (eqb kind t ≡ false → P) → P
-  at kind t hit miss = by (eqb kind t) (λ e. hit (eqb-true kind t e)) miss
+  abbrev at : (frameType : ℕ) {P : Type 0} (t : ℕ) → (frameType ≡ t → P) → (eqb frameType t ≡ false → P) → P
+  at frameType t hit miss = by (eqb frameType t) (λ e. hit (eqb-true frameType t e)) miss
 
   is-receive-request : Refined Types.receive-request
-  unfolding handledIn
-  is-receive-request = receive-request r from g p z
+  unfolding handledIn receiveRequestIn
+  is-receive-request = rw (b, c) (receive-request r from g p z)
 
   is-receive-response : Refined Types.receive-response
-  unfolding handledIn
-  is-receive-response = receive-response r from g p z
+  unfolding handledIn receiveResponseIn
+  is-receive-response = rw (b, c) (receive-response r from g p z)
 
   is-command-request : Refined Types.command-request
-  unfolding handledIn
-  is-command-request = command-request r from g p z within few
+  unfolding handledIn commandRequestIn
+  is-command-request = rw (b, c) (command-request r from g p z within (ltb-false 250 (length p) c))
 
   is-command-response : Refined Types.command-response
-  unfolding handledIn
-  is-command-response = command-response r from g p z
+  unfolding handledIn commandResponseIn
+  is-command-response = rw (b, c) (command-response r from g p z)
 
   is-enumeration-start-request : Refined Types.enumeration-start-request
-  unfolding handledIn untabledIn
-  is-enumeration-start-request = enumeration-start r from g p
+  unfolding handledIn untabledIn byTypeIn
+  is-enumeration-start-request = rw (b, c) (enumeration-start r from g p)
 
   is-enumeration-response : Refined Types.enumeration-response
-  unfolding handledIn untabledIn
-  is-enumeration-response = enumeration-response r from g p
+  unfolding handledIn untabledIn byTypeIn
+  is-enumeration-response = rw (b, c) (enumeration-response r from g p)
 
   is-identify-response : Refined Types.identify-response
-  unfolding handledIn untabledIn
-  is-identify-response = identify r from g p
+  unfolding handledIn untabledIn byTypeIn
+  is-identify-response = rw (b, c) (identify r from g p)
 
   is-version-response : Refined Types.version-response
-  unfolding handledIn untabledIn
-  is-version-response = version r from g p
+  unfolding handledIn untabledIn byTypeIn
+  is-version-response = rw (b, c) (version r from g p)
 
   is-enumeration-end-response : Refined Types.enumeration-end-response
-  unfolding handledIn untabledIn
-  is-enumeration-end-response = enumeration-end r from g p
+  unfolding handledIn untabledIn byTypeIn
+  is-enumeration-end-response = rw (b, c) (enumeration-end r from g p)
 
   is-ping-request : Refined Types.ping-request
-  unfolding handledIn untabledIn countIn counterOf handledOf stateOf
-  is-ping-request = refl
+  unfolding handledIn untabledIn byTypeIn countIn counterOf handledOf stateOf
+  is-ping-request = rw (b, c)
 
   is-ping-response : Refined Types.ping-response
-  unfolding handledIn untabledIn countIn counterOf handledOf stateOf
-  is-ping-response = refl
+  unfolding handledIn untabledIn byTypeIn countIn counterOf handledOf stateOf
+  is-ping-response = rw (b, c)
 
   is-enumeration-start-response : Refined Types.enumeration-start-response
-  unfolding handledIn untabledIn countIn counterOf handledOf stateOf
-  is-enumeration-start-response = refl
+  unfolding handledIn untabledIn byTypeIn countIn counterOf handledOf stateOf
+  is-enumeration-start-response = rw (b, c)
 
   is-enumeration-request : Refined Types.enumeration-request
-  unfolding handledIn untabledIn countIn counterOf handledOf stateOf
-  is-enumeration-request = refl
+  unfolding handledIn untabledIn byTypeIn countIn counterOf handledOf stateOf
+  is-enumeration-request = rw (b, c)
 
   is-assign-gateway-id-request : Refined Types.assign-gateway-id-request
-  unfolding handledIn untabledIn countIn counterOf handledOf stateOf
-  is-assign-gateway-id-request = refl
+  unfolding handledIn untabledIn byTypeIn countIn counterOf handledOf stateOf
+  is-assign-gateway-id-request = rw (b, c)
 
   is-assign-gateway-id-response : Refined Types.assign-gateway-id-response
-  unfolding handledIn untabledIn countIn counterOf handledOf stateOf
-  is-assign-gateway-id-response = refl
+  unfolding handledIn untabledIn byTypeIn countIn counterOf handledOf stateOf
+  is-assign-gateway-id-response = rw (b, c)
 
   is-identify-request : Refined Types.identify-request
-  unfolding handledIn untabledIn countIn counterOf handledOf stateOf
-  is-identify-request = refl
+  unfolding handledIn untabledIn byTypeIn countIn counterOf handledOf stateOf
+  is-identify-request = rw (b, c)
 
   is-version-request : Refined Types.version-request
-  unfolding handledIn untabledIn countIn counterOf handledOf stateOf
-  is-version-request = refl
+  unfolding handledIn untabledIn byTypeIn countIn counterOf handledOf stateOf
+  is-version-request = rw (b, c)
 
   is-enumeration-end-request : Refined Types.enumeration-end-request
-  unfolding handledIn untabledIn countIn counterOf handledOf stateOf
-  is-enumeration-end-request = refl
+  unfolding handledIn untabledIn byTypeIn countIn counterOf handledOf stateOf
+  is-enumeration-end-request = rw (b, c)
 
-  refines-handled : (kind : ℕ) → Refined kind
-  unfolding handledIn untabledIn countIn counterOf handledOf stateOf
-  refines-handled kind =
-      at kind Types.receive-request (λ e. rw e is-receive-request)
-      (λ n1. at kind Types.receive-response (λ e. rw e is-receive-response)
-      (λ n2. at kind Types.command-request (λ e. rw e is-command-request)
-      (λ n3. at kind Types.command-response (λ e. rw e is-command-response)
-      (λ n4. at kind Types.enumeration-start-request (λ e. rw e is-enumeration-start-request)
-      (λ n5. at kind Types.enumeration-response (λ e. rw e is-enumeration-response)
-      (λ n6. at kind Types.identify-response (λ e. rw e is-identify-response)
-      (λ n7. at kind Types.version-response (λ e. rw e is-version-response)
-      (λ n8. at kind Types.enumeration-end-response (λ e. rw e is-enumeration-end-response)
-      (λ n9. at kind Types.ping-request (λ e. rw e is-ping-request)
-      (λ n10. at kind Types.ping-response (λ e. rw e is-ping-response)
-      (λ n11. at kind Types.enumeration-start-response (λ e. rw e is-enumeration-start-response)
-      (λ n12. at kind Types.enumeration-request (λ e. rw e is-enumeration-request)
-      (λ n13. at kind Types.assign-gateway-id-request (λ e. rw e is-assign-gateway-id-request)
-      (λ n14. at kind Types.assign-gateway-id-response (λ e. rw e is-assign-gateway-id-response)
-      (λ n15. at kind Types.identify-request (λ e. rw e is-identify-request)
-      (λ n16. at kind Types.version-request (λ e. rw e is-version-request)
-      (λ n17. at kind Types.enumeration-end-request (λ e. rw e is-enumeration-end-request)
-      (λ n18. rw (n1, n2, n3, n4, n5, n6, n7, n8, n9, n10, n11, n12, n13, n14, n15, n16, n17, n18)))))))))))))))))))
+  refines-handled : (frameType : ℕ) → Refined frameType
+  unfolding handledIn untabledIn byTypeIn countIn counterOf handledOf stateOf
+  refines-handled frameType =
+      at frameType Types.receive-request (λ e. rw e is-receive-request)
+      (λ n1. at frameType Types.receive-response (λ e. rw e is-receive-response)
+      (λ n2. at frameType Types.command-request (λ e. rw e is-command-request)
+      (λ n3. at frameType Types.command-response (λ e. rw e is-command-response)
+      (λ n4. at frameType Types.enumeration-start-request (λ e. rw e is-enumeration-start-request)
+      (λ n5. at frameType Types.enumeration-response (λ e. rw e is-enumeration-response)
+      (λ n6. at frameType Types.identify-response (λ e. rw e is-identify-response)
+      (λ n7. at frameType Types.version-response (λ e. rw e is-version-response)
+      (λ n8. at frameType Types.enumeration-end-response (λ e. rw e is-enumeration-end-response)
+      (λ n9. at frameType Types.ping-request (λ e. rw e is-ping-request)
+      (λ n10. at frameType Types.ping-response (λ e. rw e is-ping-response)
+      (λ n11. at frameType Types.enumeration-start-response (λ e. rw e is-enumeration-start-response)
+      (λ n12. at frameType Types.enumeration-request (λ e. rw e is-enumeration-request)
+      (λ n13. at frameType Types.assign-gateway-id-request (λ e. rw e is-assign-gateway-id-request)
+      (λ n14. at frameType Types.assign-gateway-id-response (λ e. rw e is-assign-gateway-id-response)
+      (λ n15. at frameType Types.identify-request (λ e. rw e is-identify-request)
+      (λ n16. at frameType Types.version-request (λ e. rw e is-version-request)
+      (λ n17. at frameType Types.enumeration-end-request (λ e. rw e is-enumeration-end-request)
+      (λ n18. rw (b, c, n1, n2, n3, n4, n5, n6, n7, n8, n9, n10, n11, n12, n13, n14, n15, n16, n17, n18)))))))))))))))))))
 
 -- 12, 13 and 32 are asked of the arrays as of the tables; behind them both steps go by the type
 module _ (r : Receiver) (f : Frame) where
@@ -266,15 +265,15 @@ module _ (r : Receiver) (f : Frame) where
   unfolding stateOf
   over-same = overLimit-places (r .ckeys) (r .ctypes) (r .clengths) (r .cpayloads)
 
-  refused-12 : overOf (r .ckeys) (r .clengths) 245 ≡ true → told f (stepIn r f) ≡ stepOf (stateOf r) f
+  pub refused-12 : overOf (r .ckeys) (r .clengths) 245 ≡ true → told f (stepIn r f) ≡ stepOf (stateOf r) f
   unfolding stepIn stepOf
   refused-12 a = rw (over-same, a)
 
-  refused-13 : overOf (r .ckeys) (r .clengths) 245 ≡ false → ltb 0x7fff (f .gateway) ≡ true → told f (stepIn r f) ≡ stepOf (stateOf r) f
+  pub refused-13 : overOf (r .ckeys) (r .clengths) 245 ≡ false → ltb 0x7fff (f .gateway) ≡ true → told f (stepIn r f) ≡ stepOf (stateOf r) f
   unfolding stepIn stepOf
   refused-13 a b = rw (over-same, a, b)
 
-  refused-32 : overOf (r .ckeys) (r .clengths) 245 ≡ false → ltb 0x7fff (f .gateway) ≡ false → ltb 250 (length (f .payload)) ≡ true → told f (stepIn r f) ≡ stepOf (stateOf r) f
+  pub refused-32 : overOf (r .ckeys) (r .clengths) 245 ≡ false → ltb 0x7fff (f .gateway) ≡ false → ltb 250 (length (f .payload)) ≡ true → told f (stepIn r f) ≡ stepOf (stateOf r) f
   unfolding stepIn stepOf
   refused-32 a b c = rw (over-same, a, b, c)
 
@@ -288,14 +287,12 @@ refines r z f =
     by (overOf (r .ckeys) (r .clengths) 245) (refused-12 r f)
     (λ a. by (ltb 0x7fff (f .gateway)) (refused-13 r f a)
     (λ b. by (ltb 250 (length (f .payload))) (refused-32 r f a b)
-    (λ c. passed r f a b c (refines-handled r z a (f .from) (f .gateway) (f .payload) (ltb-false 250 (length (f .payload)) c) (f .kind)))))
+    (λ c. passed r f a b c (refines-handled r z a (f .from) (f .gateway) (f .payload) b c (f .frameType)))))
 
 -- what the reset does to the arrays is what 01's reset does to the tables that they mean
-module _ (r : Receiver) where
-  pub reset-refused : overOf (r .ckeys) (r .clengths) 245 ≡ true → toldReset (record { receiver = r; over = true }) ≡ resetOf (stateOf r)
-  unfolding resetOf stateOf
-  reset-refused e = rw (overLimit-places (r .ckeys) (r .ctypes) (r .clengths) (r .cpayloads), e)
-
-  pub reset-done : overOf (r .ckeys) (r .clengths) 245 ≡ false → toldReset (record { receiver = clearedOf r; over = false }) ≡ resetOf (stateOf r)
-  unfolding resetOf stateOf
-  reset-done e = rw (overLimit-places (r .ckeys) (r .ctypes) (r .clengths) (r .cpayloads), e)
+pub reset-refines : (r : Receiver) → toldReset (resetIn r) ≡ resetOf (stateOf r)
+unfolding resetIn resetOf stateOf
+reset-refines r =
+    by (overOf (r .ckeys) (r .clengths) 245)
+    (λ e. rw (overLimit-places (r .ckeys) (r .ctypes) (r .clengths) (r .cpayloads), e))
+    (λ e. rw (overLimit-places (r .ckeys) (r .ctypes) (r .clengths) (r .cpayloads), e))

@@ -5,7 +5,7 @@ use mathlib.Core.List.{List}
 use lib.ListN.{drop}
 use Rattle.layouts.specs.Layouts.{longAddress, responseData}
 use Rattle.transport_receiver.specs.State.{Frame, stateOf, payloadAt}
-use Rattle.transport_receiver.specs.Step.{Event, enumeration-started, identity, version, enumeration-ended, slot-captured, slot-counter, command, Outcome, refused, short, silent, event, Result}
+use Rattle.transport_receiver.specs.Step.{Event, enumeration-started, identity, version, enumeration-ended, slot-captured, slot-counter, command, Outcome, refused, refused-with, silent, event, Result}
 use Rattle.transport_receiver.specs.declared.Stepped.{Stepped}
 use Rattle.transport_receiver.specs.declared.WasReset.{WasReset}
 use Rattle.answers.specs.declared.Answer.{Answer}
@@ -18,7 +18,7 @@ handed pool f InvalidGatewayID = refused 13
 handed pool f WrongDirection = refused 20
 handed pool f WrongLength = refused 21
 handed pool f UnknownStatusType = refused 22
-handed pool f (TooShort needed) = short needed
+handed pool f (TooShort needed) = refused-with 23 needed
 handed pool f UnknownGateway = refused 24
 handed pool f NumbersFull = refused 25
 handed pool f SequencesFull = refused 26
@@ -36,7 +36,7 @@ handed pool f VersionObserved = event (version (f .gateway) (f .payload))
 handed pool f EnumerationEnded = event (enumeration-ended (f .gateway))
 handed pool f SlotCounterCaptured = event (slot-captured (f .gateway))
 handed pool f (SlotCounterObserved number slot repeat area) = event (slot-counter (f .gateway) (slot .0) repeat (drop area (f .payload)))
-handed pool f (CommandExecuted place request length response) = event (command (f .gateway) request (payloadAt pool place length) response (responseData (f .payload)))
+handed pool f (CommandExecuted place request length response) = event (command (f .gateway) (request .0) (payloadAt pool place length) (response .0) (responseData (f .payload)))
 
 -- what a step says of a frame: what it hands back, and the tables and counters after it
 abbrev pub told : Frame → Stepped → Result

@@ -11,7 +11,7 @@ use Rattle.transport_receiver.specs.declared.Receiver.{Receiver}
 
 -- a waiting command: the request's packet type, its payload's length, its payload
 pub record Command : Type 0 where
-  pub kind : ℕ
+  pub packetType : ℕ
   pub size : ℕ
   pub payload : List ℕ
 
@@ -19,6 +19,7 @@ pub record Command : Type 0 where
 abbrev pub roomOfCommand : ℕ
 roomOfCommand = 245
 
+-- the three tables, and the 33 counters
 pub record State : Type 0 where
   pub numbers : List (Place ℕ)
   pub sequences : List (Place ℕ)
@@ -29,9 +30,10 @@ pub record State : Type 0 where
 abbrev pub payloadAt : List ℕ → ℕ → ℕ → List ℕ
 payloadAt pool i size = take size (drop (i * roomOfCommand) pool)
 
+-- the command at a place of the arrays
 abbrev pub commandIn : List ℕ → List ℕ → List ℕ → ℕ → Command
 commandIn types lengths pool i =
-    record { kind = getD types i 0; size = getD lengths i 0; payload = payloadAt pool i (getD lengths i 0) }
+    record { packetType = getD types i 0; size = getD lengths i 0; payload = payloadAt pool i (getD lengths i 0) }
 
 -- what the arrays mean: the one definition of it
 unfoldable pub stateOf : Receiver → State
@@ -47,14 +49,16 @@ stateOf r =
 pub record Frame : Type 0 where
   pub from : Bool
   pub gateway : ℕ
-  pub kind : ℕ
+  pub frameType : ℕ
   pub payload : List ℕ
 
+-- a frame by its four parts
 abbrev pub given : Bool → ℕ → ℕ → List ℕ → Frame
-given from gateway kind payload = record { from = from; gateway = gateway; kind = kind; payload = payload }
+given from gateway frameType payload = record { from = from; gateway = gateway; frameType = frameType; payload = payload }
 
+-- a frame by its address, type and payload, as the step's caller has them
 abbrev pub frameOf : Address → link.Type → List ℕ → Frame
-frameOf address kind payload = given (isFrom address) (gatewayOf address) (kind .0) payload
+frameOf address frameType payload = given (isFrom address) (gatewayOf address) (frameType .0) payload
 
 -- a fresh receiver: every place free, every counter 0
 abbrev pub fresh : Receiver

@@ -17,7 +17,7 @@ use Rattle.answers.specs.Counters
 use Rattle.answers.specs.Counters.{raise, countPackets, counterCount}
 use Rattle.answers.specs.Types
 use Rattle.answers.specs.Types.{isOneOf, isNamed, invalidOf, counterOf}
-use Rattle.answers.specs.Stored.{commandKey, repeats}
+use Rattle.answers.specs.Stored.{gatewayKey, commandKey, repeats}
 use Rattle.transport_receiver.specs.State.{Command, State, Frame, roomOfCommand}
 
 -- 01, "Event record": what an event says; its gateway comes first
@@ -32,28 +32,34 @@ pub data Event : Type 0 where
   -- request type and payload, response type and payload
   command : ℕ → ℕ → List ℕ → ℕ → List ℕ → Event
 
--- what a step hands back: a number of 01's table (23 with the length needed), or that the frame is accepted, with its event if it has one
+-- what a step hands back: a number of 01's table, alone or with a value (23 has the length needed), or that the frame is accepted, with its event if it has one
 pub data Outcome : Type 0 where
   refused : ℕ → Outcome
-  short : ℕ → Outcome
+  refused-with : ℕ → ℕ → Outcome
   silent : Outcome
   event : Event → Outcome
 
--- a number of 01's table, 23 among them
+-- a number of 01's table, with a value or without
 abbrev pub isRefusal : Outcome → Bool
 isRefusal (refused n) = true
-isRefusal (short n) = true
+isRefusal (refused-with n value) = true
 isRefusal silent = false
 isRefusal (event e) = false
 
+-- what a step hands back, and the state after it
 pub record Result : Type 0 where
   pub outcome : Outcome
   pub state : State
 
--- the key of a command's request, and of a response
+-- the key of a frame's gateway, in the tables of packet numbers and of last sequences
+abbrev pub gatewayKeyOf : Frame → ℕ
+gatewayKeyOf f = gatewayKey (f .gateway)
+
+-- the key of a command's request: 01, "Transport": a command request is kept under gateway and sequence
 abbrev pub keyOf : Frame → ℕ
 keyOf f = commandKey (f .gateway) (requestSequence (f .payload))
 
+-- and of a command's response, which takes its request out
 abbrev pub answerKeyOf : Frame → ℕ
 answerKeyOf f = commandKey (f .gateway) (responseSequence (f .payload))
 
@@ -62,6 +68,7 @@ abbrev pub isOver : Place Command → Bool
 isOver free = false
 isOver (held k c) = ltb roomOfCommand (c .size)
 
+-- .. at any place
 unfoldable pub overLimit : List (Place Command) → Bool
 overLimit [] = false
 overLimit (p ∷ ps) = cond (isOver p) true (overLimit ps)
@@ -69,19 +76,19 @@ overLimit (p ∷ ps) = cond (isOver p) true (overLimit ps)
 -- 20: wrong direction, or enumeration start not To 0
 abbrev pub wrongDirection : Frame → Bool
 wrongDirection f =
-    cond (isOneOf (Types.receive-request ∷ Types.command-request ∷ []) (f .kind)) (f .from)
-    (cond (eqb (f .kind) Types.enumeration-start-request) (f .from || not (eqb (f .gateway) 0))
-    (cond (isOneOf (Types.receive-response ∷ Types.command-response ∷ Types.enumeration-response ∷ Types.identify-response ∷ Types.version-response ∷ Types.enumeration-end-response ∷ []) (f .kind)) (not (f .from))
+    cond (isOneOf (Types.receive-request ∷ Types.command-request ∷ []) (f .frameType)) (f .from)
+    (cond (eqb (f .frameType) Types.enumeration-start-request) (f .from || not (eqb (f .gateway) 0))
+    (cond (isOneOf (Types.receive-response ∷ Types.command-response ∷ Types.enumeration-response ∷ Types.identify-response ∷ Types.version-response ∷ Types.enumeration-end-response ∷ []) (f .frameType)) (not (f .from))
     false))
 
 -- 21: wrong or short fixed length
 abbrev pub wrongLength : Frame → Bool
 wrongLength f =
-    cond (eqb (f .kind) Types.receive-request) (not (eqb (length (f .payload)) receiveRequestLength))
-    (cond (isOneOf (Types.identify-response ∷ Types.enumeration-response ∷ []) (f .kind)) (not (eqb (length (f .payload)) identifyResponseLength))
-    (cond (eqb (f .kind) Types.enumeration-start-request) (not (eqb (length (f .payload)) enumerationStartRequestLength))
-    (cond (eqb (f .kind) Types.command-request) (ltb (length (f .payload)) commandRequestLength)
-    (cond (eqb (f .kind) Types.command-response) (ltb (length (f .payload)) commandResponseLength)
+    cond (eqb (f .frameType) Types.receive-request) (not (eqb (length (f .payload)) receiveRequestLength))
+    (cond (isOneOf (Types.identify-response ∷ Types.enumeration-response ∷ []) (f .frameType)) (not (eqb (length (f .payload)) identifyResponseLength))
+    (cond (eqb (f .frameType) Types.enumeration-start-request) (not (eqb (length (f .payload)) enumerationStartRequestLength))
+    (cond (eqb (f .frameType) Types.command-request) (ltb (length (f .payload)) commandRequestLength)
+    (cond (eqb (f .frameType) Types.command-response) (ltb (length (f .payload)) commandResponseLength)
     false))))
 
 -- a receive response's status word
@@ -94,6 +101,7 @@ pub record Row : Type 0 where
   pub outcome : Outcome
   pub counter : Option ℕ
 
+-- such a row, by its three parts
 abbrev pub row : Bool → Outcome → Option ℕ → Row
 row h o c = record { holds = h; outcome = o; counter = c }
 
@@ -109,25 +117,26 @@ rowsOfAny s f rows =
 -- Refusals 20 to 24 and 28 to 31 raise the source's counter for that case; the others raise none
 abbrev pub rowsOfType : State → Frame → List Row
 rowsOfType s f =
-    row (not (isNamed (f .kind))) (refused 31) (some Counters.unhandled-frame-type)
-    ∷ row (wrongDirection f) (refused 20) (some (invalidOf (f .kind)))
-    ∷ row (eqb (f .kind) Types.receive-response && not (isHeld (s .numbers) (f .gateway))) (refused 24) (some Counters.receive-response-from-unknown-gateway)
-    ∷ row (wrongLength f) (refused 21) (some (invalidOf (f .kind)))
-    ∷ row (eqb (f .kind) Types.receive-response && ltb (length (f .payload)) 2) (short 5) (some (invalidOf (f .kind)))
-    ∷ row (eqb (f .kind) Types.receive-response && not (acceptedOf (statusOf f))) (refused 22) (some (invalidOf (f .kind)))
-    ∷ row (eqb (f .kind) Types.receive-response && ltb (length (f .payload)) (neededOf (statusOf f))) (short (neededOf (statusOf f))) (some (invalidOf (f .kind)))
-    ∷ row (eqb (f .kind) Types.enumeration-start-request && isFrom (enumerationAddress (f .payload))) (refused 28) (some (invalidOf (f .kind)))
-    ∷ row (eqb (f .kind) Types.version-response && not (isText (f .payload))) (refused 29) (some (invalidOf (f .kind)))
-    ∷ row (eqb (f .kind) Types.command-request && not (hasRoom (s .sequences) (f .gateway))) (refused 26) none
-    ∷ row (eqb (f .kind) Types.command-request && not (hasRoom (s .commands) (keyOf f))) (refused 27) none
-    ∷ row (eqb (f .kind) Types.receive-request && not (hasRoom (s .numbers) (f .gateway))) (refused 25) none
-    ∷ row (eqb (f .kind) Types.command-response && not (isHeld (s .commands) (answerKeyOf f))) (refused 30) (some Counters.retransmitted-command-responses)
+    row (not (isNamed (f .frameType))) (refused 31) (some Counters.unhandled-frame-type)
+    ∷ row (wrongDirection f) (refused 20) (some (invalidOf (f .frameType)))
+    ∷ row (eqb (f .frameType) Types.receive-response && not (isHeld (s .numbers) (gatewayKeyOf f))) (refused 24) (some Counters.receive-response-from-unknown-gateway)
+    ∷ row (wrongLength f) (refused 21) (some (invalidOf (f .frameType)))
+    ∷ row (eqb (f .frameType) Types.receive-response && ltb (length (f .payload)) 2) (refused-with 23 5) (some (invalidOf (f .frameType)))
+    ∷ row (eqb (f .frameType) Types.receive-response && not (acceptedOf (statusOf f))) (refused 22) (some (invalidOf (f .frameType)))
+    ∷ row (eqb (f .frameType) Types.receive-response && ltb (length (f .payload)) (neededOf (statusOf f))) (refused-with 23 (neededOf (statusOf f))) (some (invalidOf (f .frameType)))
+    ∷ row (eqb (f .frameType) Types.enumeration-start-request && isFrom (enumerationAddress (f .payload))) (refused 28) (some (invalidOf (f .frameType)))
+    ∷ row (eqb (f .frameType) Types.version-response && not (isText (f .payload))) (refused 29) (some (invalidOf (f .frameType)))
+    ∷ row (eqb (f .frameType) Types.command-request && not (hasRoom (s .sequences) (gatewayKeyOf f))) (refused 26) none
+    ∷ row (eqb (f .frameType) Types.command-request && not (hasRoom (s .commands) (keyOf f))) (refused 27) none
+    ∷ row (eqb (f .frameType) Types.receive-request && not (hasRoom (s .numbers) (gatewayKeyOf f))) (refused 25) none
+    ∷ row (eqb (f .frameType) Types.command-response && not (isHeld (s .commands) (answerKeyOf f))) (refused 30) (some Counters.retransmitted-command-responses)
     ∷ []
 
 -- a state with other counters
 abbrev pub counting : State → List ℕ → State
 counting s cs = record { numbers = s .numbers; sequences = s .sequences; commands = s .commands; counters = cs }
 
+-- the counter that a row names raised, if it names one
 abbrev pub raiseAny : Option ℕ → List ℕ → List ℕ
 raiseAny none cs = cs
 raiseAny (some i) cs = raise i cs
@@ -136,6 +145,7 @@ raiseAny (some i) cs = raise i cs
 abbrev pub refuse : State → Row → Result
 refuse s r = record { outcome = r .outcome; state = counting s (raiseAny (r .counter) (s .counters)) }
 
+-- the number that a look-up gave; 24 refuses a response where it gave none
 abbrev pub numberIn : Option ℕ → ℕ
 numberIn none = 0
 numberIn (some n) = n
@@ -146,7 +156,7 @@ received s f before area =
     record {
       outcome = event (slot-counter (f .gateway) (be16At (f .payload) (slotCounterAt (statusOf f))) (repeats (numberOf (statusOf f) (f .payload) before) before area) area);
       state = record {
-        numbers = stored (s .numbers) (f .gateway) (numberOf (statusOf f) (f .payload) before);
+        numbers = stored (s .numbers) (gatewayKeyOf f) (numberOf (statusOf f) (f .payload) before);
         sequences = s .sequences;
         commands = s .commands;
         counters = countPackets area (raise Counters.receive-responses (s .counters));
@@ -158,7 +168,7 @@ abbrev pub captured : State → Frame → Result
 captured s f =
     record {
       outcome = event (slot-captured (f .gateway));
-      state = record { numbers = stored (s .numbers) (f .gateway) (requestedNumber (f .payload)); sequences = s .sequences; commands = s .commands; counters = raise Counters.receive-requests (s .counters) };
+      state = record { numbers = stored (s .numbers) (gatewayKeyOf f) (requestedNumber (f .payload)); sequences = s .sequences; commands = s .commands; counters = raise Counters.receive-requests (s .counters) };
     }
 
 -- it counts as retransmitted if its sequence is the gateway's last
@@ -168,7 +178,7 @@ isLast (some m) n = eqb m n
 
 -- a request's packet type and payload
 abbrev pub requestOf : List ℕ → Command
-requestOf p = record { kind = requestType p; size = length (requestData p); payload = requestData p }
+requestOf p = record { packetType = requestType p; size = length (requestData p); payload = requestData p }
 
 -- a command request is kept under gateway and sequence, replacing an older one there
 abbrev pub kept : State → Frame → Result
@@ -177,15 +187,16 @@ kept s f =
       outcome = silent;
       state = record {
         numbers = s .numbers;
-        sequences = stored (s .sequences) (f .gateway) (requestSequence (f .payload));
+        sequences = stored (s .sequences) (gatewayKeyOf f) (requestSequence (f .payload));
         commands = stored (s .commands) (keyOf f) (requestOf (f .payload));
-        counters = raise (cond (isLast (valueAt (s .sequences) (f .gateway)) (requestSequence (f .payload))) Counters.retransmitted-command-requests Counters.command-requests) (s .counters);
+        counters = raise (cond (isLast (valueAt (s .sequences) (gatewayKeyOf f)) (requestSequence (f .payload))) Counters.retransmitted-command-requests Counters.command-requests) (s .counters);
       };
     }
 
+-- what a response says of the request that a look-up gave; 30 refuses it where it gave none
 abbrev pub executedOf : Option Command → Frame → Outcome
 executedOf none f = silent
-executedOf (some c) f = event (command (f .gateway) (c .kind) (c .payload) (responseType (f .payload)) (responseData (f .payload)))
+executedOf (some c) f = event (command (f .gateway) (c .packetType) (c .payload) (responseType (f .payload)) (responseData (f .payload)))
 
 -- a response takes its request out
 abbrev pub executed : State → Frame → Result
@@ -202,16 +213,16 @@ counted s o i = record { outcome = o; state = counting s (raise i (s .counters))
 -- what an accepted frame does, by its type
 abbrev pub accepted : State → Frame → Result
 accepted s f =
-    cond (eqb (f .kind) Types.receive-request) (captured s f)
-    (cond (eqb (f .kind) Types.receive-response) (received s f (numberIn (valueAt (s .numbers) (f .gateway))) (drop (neededOf (statusOf f)) (f .payload)))
-    (cond (eqb (f .kind) Types.command-request) (kept s f)
-    (cond (eqb (f .kind) Types.command-response) (executed s f)
-    (cond (eqb (f .kind) Types.enumeration-start-request) (counted s (event (enumeration-started (gatewayOf (enumerationAddress (f .payload))))) Counters.enumeration-start-requests)
-    (cond (eqb (f .kind) Types.enumeration-response) (counted s (event (identity (f .gateway) (longAddress (f .payload)))) Counters.enumeration-responses)
-    (cond (eqb (f .kind) Types.identify-response) (counted s (event (identity (f .gateway) (longAddress (f .payload)))) Counters.identify-responses)
-    (cond (eqb (f .kind) Types.version-response) (counted s (event (version (f .gateway) (f .payload))) Counters.version-responses)
-    (cond (eqb (f .kind) Types.enumeration-end-response) (counted s (event (enumeration-ended (f .gateway))) Counters.enumeration-end-responses)
-    (counted s silent (counterOf (f .kind)))))))))))
+    cond (eqb (f .frameType) Types.receive-request) (captured s f)
+    (cond (eqb (f .frameType) Types.receive-response) (received s f (numberIn (valueAt (s .numbers) (gatewayKeyOf f))) (drop (neededOf (statusOf f)) (f .payload)))
+    (cond (eqb (f .frameType) Types.command-request) (kept s f)
+    (cond (eqb (f .frameType) Types.command-response) (executed s f)
+    (cond (eqb (f .frameType) Types.enumeration-start-request) (counted s (event (enumeration-started (gatewayOf (enumerationAddress (f .payload))))) Counters.enumeration-start-requests)
+    (cond (eqb (f .frameType) Types.enumeration-response) (counted s (event (identity (f .gateway) (longAddress (f .payload)))) Counters.enumeration-responses)
+    (cond (eqb (f .frameType) Types.identify-response) (counted s (event (identity (f .gateway) (longAddress (f .payload)))) Counters.identify-responses)
+    (cond (eqb (f .frameType) Types.version-response) (counted s (event (version (f .gateway) (f .payload))) Counters.version-responses)
+    (cond (eqb (f .frameType) Types.enumeration-end-response) (counted s (event (enumeration-ended (f .gateway))) Counters.enumeration-end-responses)
+    (counted s silent (counterOf (f .frameType)))))))))))
 
 -- each refusal is given exactly when its row holds and no earlier one does
 abbrev pub judged : List Row → State → Frame → Result
@@ -237,6 +248,7 @@ pub data Input : Type 0 where
   frame : Frame → Input
   reset : Input
 
+-- what either of them does
 abbrev pub takenOf : State → Input → Result
 takenOf s (frame f) = stepOf s f
 takenOf s reset = resetOf s

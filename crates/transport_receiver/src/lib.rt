@@ -4,15 +4,19 @@
 // `step_in` is lent the arrays; `Receiver::step` is the same by value.
 ghost use mathlib.Core.Path.{_≡_};
 ghost use Rattle.address.specs.Address.{isFrom, gatewayOf};
+ghost use Rattle.tables.specs.Keys.{overOf};
 ghost use Rattle.transport_receiver.specs.State.{given, frameOf, stateOf, fresh};
 ghost use Rattle.transport_receiver.specs.Step.{stepOf, resetOf};
 ghost use Rattle.transport_receiver.specs.Handed.{told, toldReset};
-ghost use Rattle.transport_receiver.specs.Lent.{arrays, stepped, handledIn, stepIn, requestPayload, resetIn};
+ghost use Rattle.transport_receiver.specs.Lent.{arrays, stepped, handledIn, stepIn, requestPayload, countersAfter, resetIn};
 use address::Address;
+use address::GatewayID;
+use address::ID_LIMIT;
 pub use answers::Answer;
 pub use answers::counters;
 use command_frames::command_request;
 use command_frames::command_response;
+use link::PAYLOAD_LIMIT;
 use link::Type;
 use plain_frames::untabled;
 use receive_frames::receive_request;
@@ -62,19 +66,19 @@ fn handled(
     cpayloads: &mut [u8; 15680],
     counters: &mut [u64; 33],
     from: bool,
-    gateway: u16,
-    kind: u16,
+    gateway: GatewayID,
+    frame_type: Type,
     payload: &[u8],
 ) -> Answer
-    ensures { λ r. ⌜ stepped r (arrays (now (nkeys .exit)) (now (numbers .exit)) (now (skeys .exit)) (now (sequences .exit)) (now (ckeys .exit)) (now (ctypes .exit)) (now (clengths .exit)) (now (cpayloads .exit)) (now (counters .exit))) ≡ handledIn (arrays (now (nkeys .entry)) (now (numbers .entry)) (now (skeys .entry)) (now (sequences .entry)) (now (ckeys .entry)) (now (ctypes .entry)) (now (clengths .entry)) (now (cpayloads .entry)) (now (counters .entry))) (given from gateway kind (now (payload .entry))) ⌝ }
+    ensures { λ r. ⌜ stepped r (arrays (now (nkeys .exit)) (now (numbers .exit)) (now (skeys .exit)) (now (sequences .exit)) (now (ckeys .exit)) (now (ctypes .exit)) (now (clengths .exit)) (now (cpayloads .exit)) (now (counters .exit))) ≡ handledIn (arrays (now (nkeys .entry)) (now (numbers .entry)) (now (skeys .entry)) (now (sequences .entry)) (now (ckeys .entry)) (now (ctypes .entry)) (now (clengths .entry)) (now (cpayloads .entry)) (now (counters .entry))) (given from (gateway .0) («frame_type» .0) (now (payload .entry))) ⌝ }
 {
-    if kind == RECEIVE_REQUEST {
+    if frame_type.0 == RECEIVE_REQUEST {
         return receive_request(nkeys, numbers, counters, from, gateway, payload);
     }
-    if kind == RECEIVE_RESPONSE {
+    if frame_type.0 == RECEIVE_RESPONSE {
         return receive_response(nkeys, numbers, counters, from, gateway, payload);
     }
-    if kind == COMMAND_REQUEST {
+    if frame_type.0 == COMMAND_REQUEST {
         return command_request(
             skeys,
             sequences,
@@ -88,10 +92,10 @@ fn handled(
             payload,
         );
     }
-    if kind == COMMAND_RESPONSE {
+    if frame_type.0 == COMMAND_RESPONSE {
         return command_response(ckeys, ctypes, clengths, counters, from, gateway, payload);
     }
-    untabled(counters, from, gateway, kind, payload)
+    untabled(counters, from, gateway, frame_type, payload)
 }
 
 fn is_from(address: Address) -> bool
@@ -103,14 +107,27 @@ fn is_from(address: Address) -> bool
     }
 }
 
-fn gateway_of(address: Address) -> u16
-    ensures { λ r. ⌜ r ≡ gatewayOf address ⌝ }
+fn gateway_of(address: Address) -> GatewayID
+    ensures { λ r. ⌜ r .0 ≡ gatewayOf address ⌝ }
 {
     match address {
-        Address::From(id) => id.0,
-        Address::To(id) => id.0,
+        Address::From(id) => id,
+        Address::To(id) => id,
     }
 }
+
+// Does nothing: of an array that is lent as a slice the length is known, which `step_in`'s second promise needs.
+fn show(
+    nkeys: &[u32],
+    numbers: &[u16],
+    skeys: &[u32],
+    sequences: &[u8],
+    ckeys: &[u32],
+    ctypes: &[u8],
+    clengths: &[u8],
+    cpayloads: &[u8],
+    counters: &[u64],
+) {}
 
 // One frame, over a state that is lent: for a loop that keeps the arrays in locals.
 pub fn step_in(
@@ -124,23 +141,34 @@ pub fn step_in(
     cpayloads: &mut [u8; 15680],
     counters: &mut [u64; 33],
     address: Address,
-    kind: Type,
+    frame_type: Type,
     payload: &[u8],
 ) -> Answer
-    ensures { λ r. ⌜ stepped r (arrays (now (nkeys .exit)) (now (numbers .exit)) (now (skeys .exit)) (now (sequences .exit)) (now (ckeys .exit)) (now (ctypes .exit)) (now (clengths .exit)) (now (cpayloads .exit)) (now (counters .exit))) ≡ stepIn (arrays (now (nkeys .entry)) (now (numbers .entry)) (now (skeys .entry)) (now (sequences .entry)) (now (ckeys .entry)) (now (ctypes .entry)) (now (clengths .entry)) (now (cpayloads .entry)) (now (counters .entry))) (frameOf address kind (now (payload .entry))) ⌝ }
+    ensures exactly { λ r. ⌜ stepped r (arrays (now (nkeys .exit)) (now (numbers .exit)) (now (skeys .exit)) (now (sequences .exit)) (now (ckeys .exit)) (now (ctypes .exit)) (now (clengths .exit)) (now (cpayloads .exit)) (now (counters .exit))) ≡ stepIn (arrays (now (nkeys .entry)) (now (numbers .entry)) (now (skeys .entry)) (now (sequences .entry)) (now (ckeys .entry)) (now (ctypes .entry)) (now (clengths .entry)) (now (cpayloads .entry)) (now (counters .entry))) (frameOf address «frame_type» (now (payload .entry))) ⌝ }
+    ensures means { λ r. ⌜ told (frameOf address «frame_type» (now (payload .entry))) (stepped r (arrays (now (nkeys .exit)) (now (numbers .exit)) (now (skeys .exit)) (now (sequences .exit)) (now (ckeys .exit)) (now (ctypes .exit)) (now (clengths .exit)) (now (cpayloads .exit)) (now (counters .exit)))) ≡ stepOf (stateOf (arrays (now (nkeys .entry)) (now (numbers .entry)) (now (skeys .entry)) (now (sequences .entry)) (now (ckeys .entry)) (now (ctypes .entry)) (now (clengths .entry)) (now (cpayloads .entry)) (now (counters .entry)))) (frameOf address «frame_type» (now (payload .entry))) ⌝ }
 {
     if tables::over(ckeys, clengths, 245) {
         return Answer::OverLimit;
     }
     let gateway = gateway_of(address);
-    if 0x7fff < gateway {
+    if ID_LIMIT < gateway.0 {
         return Answer::InvalidGatewayID;
     }
-    if 250 < payload.len() {
+    if PAYLOAD_LIMIT < payload.len() {
         return Answer::PayloadTooLong;
     }
     let from = is_from(address);
-    let number = kind.0;
+    show(
+        nkeys,
+        numbers,
+        skeys,
+        sequences,
+        ckeys,
+        ctypes,
+        clengths,
+        cpayloads,
+        counters,
+    );
     handled(
         nkeys,
         numbers,
@@ -153,7 +181,7 @@ pub fn step_in(
         counters,
         from,
         gateway,
-        number,
+        frame_type,
         payload,
     )
 }
@@ -173,6 +201,18 @@ pub fn request_payload(cpayloads: &[u8; 15680], place: usize, length: u8) -> &[u
     let start = place * 245;
     let end = start + size;
     &pool[start..end]
+}
+
+// The counters of a state that is lent, set to 0: they are lent, and what 12 looks at. Whether 12 refuses it, with nothing changed.
+pub fn reset_in(ckeys: &[u32; 64], clengths: &[u8; 64], counters: &mut [u64; 33]) -> bool
+    ensures answer { λ r. ⌜ r ≡ overOf (now (ckeys .entry)) (now (clengths .entry)) 245 ⌝ }
+    ensures zeros { λ r. ⌜ now (counters .exit) ≡ countersAfter (overOf (now (ckeys .entry)) (now (clengths .entry)) 245) (now (counters .entry)) ⌝ }
+{
+    if tables::over(ckeys, clengths, 245) {
+        return true;
+    }
+    *counters = [0; 33];
+    false
 }
 
 // What a reset of the counters gives: the state, and whether 12 refuses it.
@@ -200,9 +240,9 @@ impl Receiver {
     }
 
     // One frame: `step_in`, by value.
-    pub fn step(self, address: Address, kind: Type, payload: &[u8]) -> Stepped
-        ensures exactly { λ r. ⌜ r ≡ stepIn self (frameOf address kind (now (payload .entry))) ⌝ }
-        ensures means { λ r. ⌜ told (frameOf address kind (now (payload .entry))) r ≡ stepOf (stateOf self) (frameOf address kind (now (payload .entry))) ⌝ }
+    pub fn step(self, address: Address, frame_type: Type, payload: &[u8]) -> Stepped
+        ensures exactly { λ r. ⌜ r ≡ stepIn self (frameOf address «frame_type» (now (payload .entry))) ⌝ }
+        ensures means { λ r. ⌜ told (frameOf address «frame_type» (now (payload .entry))) r ≡ stepOf (stateOf self) (frameOf address «frame_type» (now (payload .entry))) ⌝ }
     {
         let mut nkeys = self.nkeys;
         let mut numbers = self.numbers;
@@ -224,7 +264,7 @@ impl Receiver {
             &mut cpayloads,
             &mut counters,
             address,
-            kind,
+            frame_type,
             payload,
         );
         let receiver = Receiver {
@@ -248,17 +288,12 @@ impl Receiver {
     {
         let ckeys = self.ckeys;
         let clengths = self.clengths;
-        if tables::over(&ckeys, &clengths, 245) {
-            return WasReset {
-                receiver: self,
-                over: true,
-            };
-        }
-        let zeros = [0u64; 33];
-        self.counters = zeros;
+        let mut counters = self.counters;
+        let over = reset_in(&ckeys, &clengths, &mut counters);
+        self.counters = counters;
         WasReset {
             receiver: self,
-            over: false,
+            over,
         }
     }
 }

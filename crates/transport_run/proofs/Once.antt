@@ -13,7 +13,7 @@ use Rattle.tables.specs.Places.{isHeld, valueAt, removed, stored, Distinct}
 use Rattle.tables.proofs.Maps.{valueAt-stored-other, valueAt-removed-unheld, unheld-valueAt, valueAt-unheld, isHeld-removed}
 use Rattle.answers.specs.Types
 use Rattle.transport_receiver.specs.State.{State, Frame, Command}
-use Rattle.transport_receiver.specs.Step.{Event, isRefusal, Outcome, refused, short, silent, event, Result, Row, rowsOfAny, rowsOfType, judged, accepted, executedOf, stepOf, resetOf, overLimit, keyOf, requestOf, frame, reset}
+use Rattle.transport_receiver.specs.Step.{Event, isRefusal, Outcome, refused, refused-with, silent, event, Result, Row, rowsOfAny, rowsOfType, judged, accepted, executedOf, stepOf, resetOf, overLimit, keyOf, requestOf, frame, reset}
 use Rattle.transport_receiver.proofs.Cases.{accepted-cases, judged-cases}
 use Rattle.transport_run.specs.Reached.{Since, here, on, SameTables}
 use Rattle.transport_run.proofs.Reached.{clash}
@@ -40,7 +40,7 @@ module _ (s : State) (f : Frame) where
   quiet n = quiet-judged (rowsOfAny s f (rowsOfType s f)) n
 
   -- a key under which nothing waits: only a command request under it changes that
-  module _ (k : ℕ) (gone : valueAt (s .commands) k ≡ none) (other : f .kind ≡ Types.command-request → keyOf f ≡ k → ⊥) where
+  module _ (k : ℕ) (gone : valueAt (s .commands) k ≡ none) (other : f .frameType ≡ Types.command-request → keyOf f ≡ k → ⊥) where
     Unheld : Result → Type 0
     Unheld r = valueAt (r .state .commands) k ≡ none
 
@@ -59,7 +59,7 @@ module _ (s : State) (f : Frame) where
     unheld-step = judged-cases Unheld s f (λ r. gone) unheld-accepted (rowsOfAny s f (rowsOfType s f))
 
   -- a response whose request does not wait gives no event
-  no-event : (e : Event) → valueAt (s .commands) (keyOf f) ≡ none → f .kind ≡ Types.command-response → stepOf s f .outcome ≡ event e → ⊥
+  no-event : (e : Event) → valueAt (s .commands) (keyOf f) ≡ none → f .frameType ≡ Types.command-response → stepOf s f .outcome ≡ event e → ⊥
   unfolding stepOf
   no-event e gone k got =
       by (overLimit (s .commands)) (λ a. clash (rw (k, a) at got))
@@ -71,7 +71,7 @@ module _ (s : State) (f : Frame) where
       (λ t. clash (rw (k, a, b, c, t) at got)))))
 
   -- a response that gives its event has taken its request out
-  taken : (e : Event) → Distinct (s .commands) → f .kind ≡ Types.command-response → stepOf s f .outcome ≡ event e → valueAt (stepOf s f .state .commands) (keyOf f) ≡ none
+  taken : (e : Event) → Distinct (s .commands) → f .frameType ≡ Types.command-response → stepOf s f .outcome ≡ event e → valueAt (stepOf s f .state .commands) (keyOf f) ≡ none
   unfolding stepOf
   taken e d k got =
       by (overLimit (s .commands)) (λ a. clash (rw (k, a) at got))
@@ -94,5 +94,5 @@ unheld-since {k} (on {t} r (frame f) other) gone = unheld-step t f k (unheld-sin
 unheld-since {k} (on {t} r reset other) gone = unheld-reset t k (unheld-since r gone)
 
 -- once a response has given its event, no response to that request gives one before a new request is stored under the key
-pub answered-once : (s : State) (f : Frame) (e : Event) → Distinct (s .commands) → f .kind ≡ Types.command-response → stepOf s f .outcome ≡ event e → {t : State} → Since (keyOf f) (stepOf s f .state) t → (g : Frame) (e₂ : Event) → g .kind ≡ Types.command-response → keyOf g ≡ keyOf f → stepOf t g .outcome ≡ event e₂ → ⊥
+pub answered-once : (s : State) (f : Frame) (e : Event) → Distinct (s .commands) → f .frameType ≡ Types.command-response → stepOf s f .outcome ≡ event e → {t : State} → Since (keyOf f) (stepOf s f .state) t → (g : Frame) (e₂ : Event) → g .frameType ≡ Types.command-response → keyOf g ≡ keyOf f → stepOf t g .outcome ≡ event e₂ → ⊥
 answered-once s f e d k got {t} r g e₂ kg same = no-event t g e₂ (rw same (unheld-since r (taken s f e d k got))) kg

@@ -15,7 +15,7 @@ use Rattle.tables.proofs.Maps.{distinct-stored, distinct-removed, isHeld-remove
 use Rattle.layouts.specs.Layouts.{requestSequence}
 use Rattle.answers.specs.Types
 use Rattle.transport_receiver.specs.State.{State, Frame, Command, stateOf, fresh}
-use Rattle.transport_receiver.specs.Step.{Event, Outcome, refused, event, Result, Row, rowsOfAny, rowsOfType, judged, accepted, counting, stepOf, resetOf, isOver, overLimit, keyOf, statusOf, numberIn, requestOf, frame, reset}
+use Rattle.transport_receiver.specs.Step.{Event, Outcome, refused, event, Result, Row, rowsOfAny, rowsOfType, judged, accepted, counting, stepOf, resetOf, isOver, overLimit, gatewayKeyOf, keyOf, statusOf, numberIn, requestOf, frame, reset}
 use Rattle.transport_receiver.proofs.Cases.{accepted-cases, judged-cases}
 use Rattle.transport_run.specs.Reached.{Reached, start, on, AllDistinct}
 use Rattle.laws.proofs.Cases.{by}
@@ -44,9 +44,9 @@ module _ (s : State) (f : Frame) (d : AllDistinct s) where
   distinct-accepted : Kept (accepted s f)
   distinct-accepted =
       accepted-cases Kept s f
-      (λ e. record { numbers = distinct-stored (s .numbers) (f .gateway) (be16At (f .payload) 2) (d .numbers); sequences = d .sequences; commands = d .commands })
-      (λ e. record { numbers = distinct-stored (s .numbers) (f .gateway) (numberOf (statusOf f) (f .payload) (numberIn (valueAt (s .numbers) (f .gateway)))) (d .numbers); sequences = d .sequences; commands = d .commands })
-      (λ e. record { numbers = d .numbers; sequences = distinct-stored (s .sequences) (f .gateway) (requestSequence (f .payload)) (d .sequences); commands = distinct-stored (s .commands) (keyOf f) (requestOf (f .payload)) (d .commands) })
+      (λ e. record { numbers = distinct-stored (s .numbers) (gatewayKeyOf f) (be16At (f .payload) 2) (d .numbers); sequences = d .sequences; commands = d .commands })
+      (λ e. record { numbers = distinct-stored (s .numbers) (gatewayKeyOf f) (numberOf (statusOf f) (f .payload) (numberIn (valueAt (s .numbers) (gatewayKeyOf f)))) (d .numbers); sequences = d .sequences; commands = d .commands })
+      (λ e. record { numbers = d .numbers; sequences = distinct-stored (s .sequences) (gatewayKeyOf f) (requestSequence (f .payload)) (d .sequences); commands = distinct-stored (s .commands) (keyOf f) (requestOf (f .payload)) (d .commands) })
       (λ e. record { numbers = d .numbers; sequences = d .sequences; commands = distinct-removed (s .commands) (keyOf f) (d .commands) })
       (λ o i e. same-tables _)
 
@@ -83,7 +83,7 @@ pub clash : {P : Type 0} {n : ℕ} {e : Event} → refused n ≡ event e → P
 clash q = absurd (let z : _≡_ {A = ℕ} 0 1 = cc in omega arith)
 
 -- a response that found its request, given again, gets 30: its request is gone until a new one is stored
-pub again-30 : (s : State) (f : Frame) (e : Event) → Distinct (s .commands) → f .kind ≡ Types.command-response → stepOf s f .outcome ≡ event e → stepOf (stepOf s f .state) f .outcome ≡ refused 30
+pub again-30 : (s : State) (f : Frame) (e : Event) → Distinct (s .commands) → f .frameType ≡ Types.command-response → stepOf s f .outcome ≡ event e → stepOf (stepOf s f .state) f .outcome ≡ refused 30
 unfolding stepOf
 again-30 s f e d k got =
     by (overLimit (s .commands)) (λ a. clash (rw (k, a) at got))

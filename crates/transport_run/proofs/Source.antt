@@ -16,7 +16,7 @@ use Rattle.tables.proofs.Maps.{valueAt-stored, valueAt-removed, valueAt-unheld,
 use Rattle.layouts.specs.Layouts.{requestSequence}
 use Rattle.answers.specs.Types
 use Rattle.transport_receiver.specs.State.{State, Frame, Command, stateOf, fresh}
-use Rattle.transport_receiver.specs.Step.{Event, Outcome, refused, event, Result, Row, rowsOfAny, rowsOfType, judged, accepted, stepOf, resetOf, overLimit, keyOf, statusOf, numberIn, requestOf, frame, reset}
+use Rattle.transport_receiver.specs.Step.{Event, Outcome, refused, event, Result, Row, rowsOfAny, rowsOfType, judged, accepted, stepOf, resetOf, overLimit, gatewayKeyOf, keyOf, statusOf, numberIn, requestOf, frame, reset}
 use Rattle.transport_receiver.proofs.Cases.{accepted-cases, judged-cases}
 use Rattle.transport_run.specs.Reached.{AllDistinct}
 use Rattle.transport_run.specs.Source.{Maps, noted, answered, requested, sourceOf, isAdded, Agree, noEntries, Follows, start, on}
@@ -46,28 +46,28 @@ module _ (s : State) (m : Maps) (f : Frame) (d : AllDistinct s) (a : Agree s m) 
   same cs = record { numbers = a .numbers; sequences = a .sequences; commands = a .commands }
 
   module _ (o : overLimit (s .commands) ≡ false) (b : ltb 0x7fff (f .gateway) ≡ false) (c : ltb 250 (length (f .payload)) ≡ false) where
-    receive-request : f .kind ≡ Types.receive-request → Goal
+    receive-request : f .frameType ≡ Types.receive-request → Goal
     unfolding stepOf sourceOf
     receive-request k n =
         by (f .from) (λ t. rw (k, o, b, c, t) (same _))
         (λ t. by (eqb (length (f .payload)) 5)
-        (λ l. by (hasRoom (s .numbers) (f .gateway))
-        (λ r. rw (k, o, b, c, t, l, r) (record { numbers = agree-stored (s .numbers) (m .numbers) (f .gateway) (be16At (f .payload) 2) (a .numbers) r; sequences = a .sequences; commands = a .commands }))
+        (λ l. by (hasRoom (s .numbers) (gatewayKeyOf f))
+        (λ r. rw (k, o, b, c, t, l, r) (record { numbers = agree-stored (s .numbers) (m .numbers) (gatewayKeyOf f) (be16At (f .payload) 2) (a .numbers) r; sequences = a .sequences; commands = a .commands }))
         (λ r. untrue (rw (k, o, b, c, t, l, r) at n)))
         (λ l. rw (k, o, b, c, t, l) (same _)))
 
-    command-request : f .kind ≡ Types.command-request → Goal
+    command-request : f .frameType ≡ Types.command-request → Goal
     unfolding stepOf sourceOf
     command-request k n =
         by (f .from) (λ t. rw (k, o, b, c, t) (same _))
         (λ t. by (ltb (length (f .payload)) 5) (λ l. rw (k, o, b, c, t, l) (same _))
-        (λ l. by (hasRoom (s .sequences) (f .gateway))
+        (λ l. by (hasRoom (s .sequences) (gatewayKeyOf f))
         (λ q. by (hasRoom (s .commands) (keyOf f))
-        (λ r. rw (k, o, b, c, t, l, q, r) (record { numbers = a .numbers; sequences = agree-stored (s .sequences) (m .sequences) (f .gateway) (requestSequence (f .payload)) (a .sequences) q; commands = agree-stored (s .commands) (m .commands) (keyOf f) (requestOf (f .payload)) (a .commands) r }))
+        (λ r. rw (k, o, b, c, t, l, q, r) (record { numbers = a .numbers; sequences = agree-stored (s .sequences) (m .sequences) (gatewayKeyOf f) (requestSequence (f .payload)) (a .sequences) q; commands = agree-stored (s .commands) (m .commands) (keyOf f) (requestOf (f .payload)) (a .commands) r }))
         (λ r. untrue (rw (k, o, b, c, t, l, q, r) at n)))
         (λ q. untrue (rw (k, o, b, c, t, l, q) at n))))
 
-    command-response : f .kind ≡ Types.command-response → Goal
+    command-response : f .frameType ≡ Types.command-response → Goal
     unfolding stepOf sourceOf
     command-response k n =
         by (f .from)
@@ -77,36 +77,36 @@ module _ (s : State) (m : Maps) (f : Frame) (d : AllDistinct s) (a : Agree s m) 
         (λ h. rw (k, o, b, c, t, l, h) (record { numbers = a .numbers; sequences = a .sequences; commands = agree-unheld (s .commands) (m .commands) (keyOf f) (a .commands) h }))))
         (λ t. rw (k, o, b, c, t) (same _))
 
-    known : isHeld (s .numbers) (f .gateway) ≡ true → valueAt (s .numbers) (f .gateway) ≡ some (Option·getD (valueAt (s .numbers) (f .gateway)) 0)
-    known h = valueAt-isHeld (s .numbers) (f .gateway) 0 h
+    known : isHeld (s .numbers) (gatewayKeyOf f) ≡ true → valueAt (s .numbers) (gatewayKeyOf f) ≡ some (Option·getD (valueAt (s .numbers) (gatewayKeyOf f)) 0)
+    known h = valueAt-isHeld (s .numbers) (gatewayKeyOf f) 0 h
 
-    room : isHeld (s .numbers) (f .gateway) ≡ true → hasRoom (s .numbers) (f .gateway) ≡ true
+    room : isHeld (s .numbers) (gatewayKeyOf f) ≡ true → hasRoom (s .numbers) (gatewayKeyOf f) ≡ true
     room h = rw h
 
-    receive-response : f .kind ≡ Types.receive-response → Goal
+    receive-response : f .frameType ≡ Types.receive-response → Goal
     unfolding stepOf sourceOf
     receive-response k n =
         by (f .from)
-        (λ t. by (isHeld (s .numbers) (f .gateway))
-        (λ h. by (ltb (length (f .payload)) 2) (λ l. rw (k, o, b, c, t, ← a .numbers (f .gateway), known h, h, l) (same _))
+        (λ t. by (isHeld (s .numbers) (gatewayKeyOf f))
+        (λ h. by (ltb (length (f .payload)) 2) (λ l. rw (k, o, b, c, t, ← a .numbers (gatewayKeyOf f), known h, h, l) (same _))
         (λ l. by (acceptedOf (statusOf f))
         (λ x. by (ltb (length (f .payload)) (neededOf (statusOf f)))
-        (λ y. rw (k, o, b, c, t, ← a .numbers (f .gateway), known h, h, l, x, y) (same _))
-        (λ y. rw (k, o, b, c, t, ← a .numbers (f .gateway), known h, h, l, x, y) (record { numbers = λ j. rw h at (agree-stored (s .numbers) (m .numbers) (f .gateway) (numberOf (statusOf f) (f .payload) (Option·getD (valueAt (s .numbers) (f .gateway)) 0)) (a .numbers) (room h) j); sequences = a .sequences; commands = a .commands })))
-        (λ x. rw (k, o, b, c, t, ← a .numbers (f .gateway), known h, h, l, x) (same _))))
-        (λ h. rw (k, o, b, c, t, ← a .numbers (f .gateway), valueAt-unheld (s .numbers) (f .gateway) h, h) (same _)))
+        (λ y. rw (k, o, b, c, t, ← a .numbers (gatewayKeyOf f), known h, h, l, x, y) (same _))
+        (λ y. rw (k, o, b, c, t, ← a .numbers (gatewayKeyOf f), known h, h, l, x, y) (record { numbers = λ j. rw h at (agree-stored (s .numbers) (m .numbers) (gatewayKeyOf f) (numberOf (statusOf f) (f .payload) (Option·getD (valueAt (s .numbers) (gatewayKeyOf f)) 0)) (a .numbers) (room h) j); sequences = a .sequences; commands = a .commands })))
+        (λ x. rw (k, o, b, c, t, ← a .numbers (gatewayKeyOf f), known h, h, l, x) (same _))))
+        (λ h. rw (k, o, b, c, t, ← a .numbers (gatewayKeyOf f), valueAt-unheld (s .numbers) (gatewayKeyOf f) h, h) (same _)))
         (λ t. rw (k, o, b, c, t) (same _))
 
     -- the other types touch no map, and no table
-    module _ (k1 : eqb (f .kind) Types.receive-request ≡ false) (k2 : eqb (f .kind) Types.receive-response ≡ false) (k3 : eqb (f .kind) Types.command-request ≡ false) (k4 : eqb (f .kind) Types.command-response ≡ false) where
+    module _ (k1 : eqb (f .frameType) Types.receive-request ≡ false) (k2 : eqb (f .frameType) Types.receive-response ≡ false) (k3 : eqb (f .frameType) Types.command-request ≡ false) (k4 : eqb (f .frameType) Types.command-response ≡ false) where
       untouched : Agree (accepted s f .state) m
       untouched =
           accepted-cases (λ (r : Result). Agree (r .state) m) s f
           (λ e. not-this e k1) (λ e. not-this e k2) (λ e. not-this e k3) (λ e. not-this e k4)
           (λ o i e. same _)
         where
-          not-this : {P : Type 0} {n : ℕ} → f .kind ≡ n → eqb (f .kind) n ≡ false → P
-          not-this {n = n} e k = absurd (eqb-false (f .kind) n k e)
+          not-this : {P : Type 0} {n : ℕ} → f .frameType ≡ n → eqb (f .frameType) n ≡ false → P
+          not-this {n = n} e k = absurd (eqb-false (f .frameType) n k e)
 
       source-same : sourceOf m f ≡ m
       unfolding sourceOf
@@ -118,10 +118,10 @@ module _ (s : State) (m : Maps) (f : Frame) (d : AllDistinct s) (a : Agree s m) 
 
     by-type : Goal
     by-type n =
-        by (eqb (f .kind) Types.receive-request) (λ e. receive-request (eqb-true _ _ e) n)
-        (λ e1. by (eqb (f .kind) Types.receive-response) (λ e. receive-response (eqb-true _ _ e) n)
-        (λ e2. by (eqb (f .kind) Types.command-request) (λ e. command-request (eqb-true _ _ e) n)
-        (λ e3. by (eqb (f .kind) Types.command-response) (λ e. command-response (eqb-true _ _ e) n)
+        by (eqb (f .frameType) Types.receive-request) (λ e. receive-request (eqb-true _ _ e) n)
+        (λ e1. by (eqb (f .frameType) Types.receive-response) (λ e. receive-response (eqb-true _ _ e) n)
+        (λ e2. by (eqb (f .frameType) Types.command-request) (λ e. command-request (eqb-true _ _ e) n)
+        (λ e3. by (eqb (f .frameType) Types.command-response) (λ e. command-response (eqb-true _ _ e) n)
         (λ e4. others e1 e2 e3 e4))))
 
   -- 12 and 32 are among the added refusals; at an ID that 13 refuses nothing changes

@@ -6,6 +6,7 @@ use Rattle.answers.specs.Types
 use Rattle.transport_receiver.specs.State.{State, Frame, stateOf, fresh}
 use Rattle.transport_receiver.specs.Step.{keyOf, Input, frame, takenOf}
 
+-- a fresh receiver's state, and whatever an input makes of a state that is reached
 pub data Reached : State → Type 0 where
   start : Reached (stateOf fresh)
   on : {s : State} → Reached s → (i : Input) → Reached (takenOf s i .state)
@@ -19,7 +20,7 @@ pub record AllDistinct (s : State) : Type 0 where
 -- inputs that lead from one state to another, none of them a command request under the key k
 pub data Since (k : ℕ) (s : State) : State → Type 0 where
   here : Since k s s
-  on : {t : State} → Since k s t → (i : Input) → ((f : Frame) → i ≡ frame f → f .kind ≡ Types.command-request → keyOf f ≡ k → ⊥) → Since k s (takenOf t i .state)
+  on : {t : State} → Since k s t → (i : Input) → ((f : Frame) → i ≡ frame f → f .frameType ≡ Types.command-request → keyOf f ≡ k → ⊥) → Since k s (takenOf t i .state)
 
 -- two states with the same entries at the same places
 pub record SameTables (s t : State) : Type 0 where

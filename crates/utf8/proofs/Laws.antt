@@ -136,9 +136,6 @@ told-once false false a b = refl
 told-once true false a b = sym (b .1 (a .0 refl))
 told-once false true a b = a .1 (b .0 refl)
 
--- what `is_utf8` and `is_text` answer, as a Bool
-pub is-utf8-told : (s : List ℕ) (r : Bool) → (r ≡ true) ↔ Utf8 s → r ≡ isUtf8 s
-is-utf8-told s r e = told-once r (isUtf8 s) e (isUtf8-utf8 s)
-
+-- what `is_text` answers, as a Bool
 pub is-text-told : (s : List ℕ) (r : Bool) → (r ≡ true) ↔ Text s → r ≡ isText s
 is-text-told s r e = told-once r (isText s) e (isText-text s)

@@ -12,12 +12,12 @@ pub struct Count {
 }
 
 // Replays each line of `text` that is a row.
-fn replay(kind: u8, text: &[u8]) -> Count {
+fn replay(letter: u8, text: &[u8]) -> Count {
     let mut all = 0;
     let mut agreed = 0;
     let mut i = 0;
     while i < text.len() {
-        match runs::read_line(kind, text, i) {
+        match runs::read_line(letter, text, i) {
             runs::Line::Agrees => {
                 all = std::num::wrapping_add_u64(all, 1);
                 agreed = std::num::wrapping_add_u64(agreed, 1);
@@ -33,7 +33,7 @@ fn replay(kind: u8, text: &[u8]) -> Count {
 }
 
 // Replays a file of data/ and prints its line.
-fn file(kind: u8, path: &[u8]) {
+fn file(letter: u8, path: &[u8]) {
     let fd = os::open_read(path);
     if fd < 0 {
         os::fail(path);
@@ -42,7 +42,7 @@ fn file(kind: u8, path: &[u8]) {
     let mut text = io::large_buffer();
     let n = io::read_full(fd, &mut text);
     libc::close(fd);
-    let count = replay(kind, &text[..n]);
+    let count = replay(letter, &text[..n]);
     io::write_all(STDOUT_FILENO, path);
     io::write_all(STDOUT_FILENO, b": ");
     io::print_decimal(STDOUT_FILENO, count.agreed);

@@ -36,7 +36,7 @@ pub enum Line {
 }
 
 // The line of a text that starts at a place.
-pub fn read_line(kind: u8, text: &[u8], from: usize) -> Line
+pub fn read_line(letter: u8, text: &[u8], from: usize) -> Line
     requires { ⌜ from < length (now text) ⌝ }
 {
     let mut input = [0u8; 70000];
@@ -45,26 +45,26 @@ pub fn read_line(kind: u8, text: &[u8], from: usize) -> Line
     let len = a.len;
     if at < text.len() {
         if text[at] == 0x3d {
-            return judge(kind, &input[..len], text, at + 1);
+            return judge(letter, &input[..len], text, at + 1);
         }
     }
     Line::Comment
 }
 
 // The row with a given input, whose expected bytes stand at a place of the text.
-fn judge(kind: u8, input: &[u8], text: &[u8], at: usize) -> Line
+fn judge(letter: u8, input: &[u8], text: &[u8], at: usize) -> Line
     requires { ⌜ at ≤ length (now text) ⌝ }
 {
     let mut expected = [0u8; 70000];
     let b = crate::rows::field(text, at, &mut expected);
     let len = b.len;
-    compare(kind, input, &expected[..len])
+    compare(letter, input, &expected[..len])
 }
 
 // The row with a given input and given expected bytes.
-fn compare(kind: u8, input: &[u8], expected: &[u8]) -> Line {
+fn compare(letter: u8, input: &[u8], expected: &[u8]) -> Line {
     let mut got = [0xeeu8; 70000];
-    let n = run(kind, input, &mut got);
+    let n = run(letter, input, &mut got);
     if check::same(&got[..n], expected) {
         Line::Agrees
     } else {
@@ -73,11 +73,11 @@ fn compare(kind: u8, input: &[u8], expected: &[u8]) -> Line {
 }
 
 // Runs the function of a file. The answer, and a lent buffer behind it, go to the start of `got`, which holds ee throughout.
-fn run(kind: u8, input: &[u8], got: &mut [u8]) -> usize
+fn run(letter: u8, input: &[u8], got: &mut [u8]) -> usize
     requires { ⌜ 16 < length (now got) ⌝ }
     ensures { λ r. ⌜ r ≤ length (now (got .entry)) ⌝ }
 {
-    match kind {
+    match letter {
         CRC => crc_run(input, got),
         ESCAPED_LENGTH => length_run(input, got),
         ESCAPE => escape_run(input, got),

@@ -1,5 +1,5 @@
 // Runs the vectors of data/ through the functions on payloads, and prints how many rows each file has and how many came out wrong.
-// A row is a line `KIND ANSWER INPUT RULE`; a line that starts with # is none. tools/vectors/payloads.py makes the files and says what the kinds are.
+// A row is a line `LETTER ANSWER INPUT RULE`; a line that starts with # is none. tools/vectors/payloads.py makes the files and says what the letters ask.
 ghost use Prim.Native.Nat.{_≤_, _<_};
 ghost use lib.ListN.{length};
 ghost use Rattle.io.specs.Counts.{Counts};
@@ -88,13 +88,13 @@ fn be16(input: &[u8], at: usize) -> u16
     pair(input[at], input[at + 1])
 }
 
-// Kind p: 16 for each whole packet, and 1 if the area ends too short.
+// Letter p: 16 for each whole packet, and 1 if the area ends too short.
 fn area(input: &[u8]) -> u64 {
     let t = network::counts(input);
     std::num::wrapping_add_u64((t.packets % 65536) * 16, t.short)
 }
 
-// Kind s: the length needed, or 22.
+// Letter s: the length needed, or 22.
 fn status(input: &[u8]) -> u64 {
     let word = be16(input, 0);
     if transport::accepted(word) {
@@ -104,7 +104,7 @@ fn status(input: &[u8]) -> u64 {
     }
 }
 
-// Kind r: area, packet number and slot counter, or the refusal and its value.
+// Letter r: area, packet number and slot counter, or the refusal and its value.
 fn response(input: &[u8]) -> u64 {
     if input.len() < 2 {
         return 0;
@@ -121,7 +121,7 @@ fn response(input: &[u8]) -> u64 {
     }
 }
 
-// Kind n: the packet number that a low byte gives.
+// Letter n: the packet number that a low byte gives.
 fn packet_number(input: &[u8]) -> u64 {
     if input.len() < 3 {
         return 0;
@@ -131,7 +131,7 @@ fn packet_number(input: &[u8]) -> u64 {
     n.0 as u64
 }
 
-// Kind c: the slots since, or 0x10000 and the bad slot number.
+// Letter c: the slots since, or 0x10000 and the bad slot number.
 fn since(input: &[u8]) -> u64 {
     let now = SlotCounter(be16(input, 0));
     let past = SlotCounter(be16(input, 2));
@@ -141,20 +141,20 @@ fn since(input: &[u8]) -> u64 {
     }
 }
 
-// Kind k: the epoch's place and the slot number, and 0x40000 more if that is bad.
+// Letter k: the epoch's index and the slot number, and 0x40000 more if that is bad.
 fn counter(input: &[u8]) -> u64 {
     let c = SlotCounter(be16(input, 0));
     let epoch = c.epoch();
-    let place = (epoch.place() as u64) * 0x10000;
+    let index = (epoch.index() as u64) * 0x10000;
     match c.slot_number() {
-        Numbered::Number(n) => place + (n.get() as u64),
-        Numbered::Invalid(bad) => 0x40000 + place + (bad.0 as u64),
+        Numbered::Number(n) => index + (n.get() as u64),
+        Numbered::Invalid(bad) => 0x40000 + index + (bad.0 as u64),
     }
 }
 
-// What the functions answer to an input of a kind.
-fn answer(kind: u8, input: &[u8]) -> u64 {
-    match kind {
+// What the functions answer to an input of a letter.
+fn answer(letter: u8, input: &[u8]) -> u64 {
+    match letter {
         0x75 => { if utf8::is_utf8(input) { 1 } else { 0 } }
         0x70 => area(input),
         0x73 => status(input),

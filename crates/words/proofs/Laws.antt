@@ -5,13 +5,14 @@ use mathlib.Core.List.{List, [], _∷_, _++_, append-nil}
 use Prim.Native.Nat.{ℕ, zero, suc, _+_, _-_, _*_, _/_, _%_, _^_, _≤_, _<_}
 use native.Mathlib.Nat.{add-zero, mul-one, pow-suc, add-mul, mul-assoc, add-assoc, mod-lt, zero-lt-suc}
 use native.Mathlib.Omega.{arith}
-use borrow.Author.Tests.{eq-eqb, ne-eqb}
+use borrow.Author.Tests.{eq-eqb, ne-eqb, lt-ltb, le-ltb}
 use lib.Dec.{eqb}
-use lib.ListN.{length, getD, set, take, drop, length-take, length-drop, take-append-drop, drop-of-length-le}
-use lib.Seq.{drop-cons, take-all, sets, sets-eq, lt-length-sets}
-use Rattle.laws.specs.Bytes.{Bytes}
+use lib.ListN.{length, getD, set, take, drop, length-take, length-drop, length-append, take-append-drop, drop-of-length-le}
+use lib.Seq.{drop-cons, take-all, sets, sets-eq, lt-length-sets, paste, length-paste}
+use Rattle.laws.specs.Bytes.{Bytes, laidOver}
 use Rattle.laws.proofs.Bytes.{bytes-nil, bytes-cons}
-use Rattle.words.specs.Words.{leOf, numberOf, digits, putOf}
+use Rattle.laws.proofs.Lay.{length-laidOver, laidOver-paste, paste-append}
+use Rattle.words.specs.Words.{leOf, numberOf, digits, putOf, copiedIn}
 
 -- just n bytes have their number
 pub number-is : (n : ℕ) (b : List ℕ) → length b ≡ n → numberOf n b ≡ leOf b
@@ -113,3 +114,26 @@ within d x n e h = lt-length-sets d 0 (take n (shifted x)) (omega arith)
 
 pub put-none : (d : List ℕ) (x : ℕ) → (length d ≡ 8 → ⊥) → putOf d x ≡ d
 put-none d x ne = rw (ne-eqb (length d) 8 ne)
+
+-- a piece that fits, and one that does not
+pub copiedIn-fits : (d : List ℕ) (at : ℕ) (s : List ℕ) → at + length s ≤ length d → copiedIn d at s ≡ paste d at s (length s)
+unfolding copiedIn
+copiedIn-fits d at s h = rw (le-ltb (length d) (at + length s) h)
+
+pub copiedIn-over : (d : List ℕ) (at : ℕ) (s : List ℕ) → length d < at + length s → copiedIn d at s ≡ d
+unfolding copiedIn
+copiedIn-over d at s h = rw (lt-ltb (length d) (at + length s) h)
+
+-- a piece copied in behind what is written, and behind another copied in: the encoders' copies cite these
+pub copiedIn-laidOver : (xs ys out : List ℕ) → length xs + length ys ≤ length out → copiedIn (laidOver xs out) (length xs) ys ≡ laidOver (xs ++ ys) out
+copiedIn-laidOver xs ys out h =
+    copiedIn-fits (laidOver xs out) (length xs) ys (omega (arith, length-laidOver xs out (omega arith)))
+    ∙ laidOver-paste xs ys out
+
+pub copiedIn-append : (d : List ℕ) (at : ℕ) (xs ys : List ℕ) → at + length xs + length ys ≤ length d
+    → copiedIn (copiedIn d at xs) (at + length xs) ys ≡ copiedIn d at (xs ++ ys)
+copiedIn-append d at xs ys h =
+    let p = paste d at xs (length xs) in
+    let l : length p ≡ length d = length-paste d at xs (length xs) (omega arith) (omega arith) in
+    rw (copiedIn-fits d at xs (omega arith), copiedIn-fits p (at + length xs) ys (omega arith), copiedIn-fits d at (xs ++ ys) (simp length-append (omega arith)))
+    (paste-append d at xs ys (omega arith))

@@ -1,10 +1,10 @@
 // Four or eight bytes at once as one number, the first byte lowest. A caller lends just those bytes, so that their length need not be asked at run time.
-// And single bytes, and two as a number, the first byte highest.
+// And single bytes, two as a number, the first byte highest, and any number of them copied into a slice.
 ghost use mathlib.Core.Path.{_≡_};
 ghost use Prim.Native.Nat.{_^_, _<_};
 ghost use lib.ListN.{getD};
 ghost use Rattle.laws.specs.Bytes.{of16};
-ghost use Rattle.words.specs.Words.{numberOf, putOf};
+ghost use Rattle.words.specs.Words.{numberOf, putOf, copiedIn};
 
 // A byte as a word.
 fn byte(x: u8) -> u64
@@ -68,4 +68,17 @@ pub fn byte_at(s: &[u8], at: usize) -> u8
         return s[at];
     }
     0
+}
+
+// Copies `s` into `d` from the place `at`; where it does not fit there, nothing.
+pub fn copy_in(d: &mut [u8], at: usize, s: &[u8])
+    ensures { λ _. ⌜ now (d .exit) ≡ copiedIn (now (d .entry)) at (now (s .entry)) ⌝ }
+{
+    if d.len() < at {
+        return;
+    }
+    if d.len() - at < s.len() {
+        return;
+    }
+    bytes::copy(s, &mut d[at..]);
 }

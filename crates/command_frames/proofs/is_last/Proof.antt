@@ -16,7 +16,7 @@ element-copy-out-result c = search needs
 
 returns : tie.Need-returns
 unfolding isLastIn
-returns c = rw (eq-eqb _ _ (c .before .if1 .taken))
+returns c = rw (eq-eqb _ _ (c .before .before .if1 .taken))
 
 returns-2 : tie.Need-returns-2
 unfolding isLastIn

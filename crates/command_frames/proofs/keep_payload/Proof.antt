@@ -1,8 +1,9 @@
 -- `command_frames::keep_payload` is right: the part from 5 on is the rest of the payload. Assumes nothing.
-use mathlib.Core.Path.{_≡_, ap}
-use Prim.Native.Nat.{_-_}
+use mathlib.Core.Path.{_≡_, ap, _∙_}
+use Prim.Native.Nat.{_-_, _*_}
 use lib.ListN.{length, take, drop, length-drop}
 use lib.Seq.{take-all}
+use Rattle.words.proofs.Laws.{copiedIn-fits}
 use native.Mathlib.Omega.{arith}
 use borrow.Author.Needs.{needs}
 use Rattle.command_frames.proofs.keep_payload.Statement.{statement}
@@ -28,9 +29,12 @@ cast-result c = search needs
 
 returns : tie.Need-returns
 returns c =
-    let p = c .before .before .before .before .args .payload .now in
+    let a = c .before .before .before .before .args in
+    let p = a .payload .now in
     let e : take (length p - 5) (drop 5 p) ≡ drop 5 p = take-all (length p - 5) (drop 5 p) (omega (arith, length-drop 5 p)) in
-    (ap length e, rw e at (c .copy-in .ensures))
+    let known = c .before .copy-in-arg .given in
+    let pool : length (a .cpayloads .now) ≡ 15680 = search needs in
+    (ap length e, rw e at (c .copy-in .ensures) ∙ copiedIn-fits (a .cpayloads .now) (a .i * 245) (drop 5 p) (omega (arith, length-drop 5 p, pool)))
 
 pub keep-payload-spec : {M : Type 1} → statement M
 keep-payload-spec =

@@ -37,7 +37,7 @@ add-i c =
     let run = c .before .before .copy-run in
     let next = run .last .1 .0 in
     let g = laid-run (a .input .now) (a .out .now) (c .before .before .before .before .before .before .before .before .pre) (l .out) (l .i) (l .k) (l .inv) next (run .result) (run .ensures .0) (run .ensures .1) in
-    omega (arith, g .placed)
+    omega (arith, g .inside)
 
 shared-slice-read-write-byte : tie.Need-shared-slice-read-write-byte Inv-loop μ-loop
 shared-slice-read-write-byte c =
@@ -46,7 +46,7 @@ shared-slice-read-write-byte c =
     let run = c .before .before .before .before .copy-run in
     let next = run .last .1 .0 in
     let g = laid-run (a .input .now) (a .out .now) (c .before .before .before .before .before .before .before .before .before .before .pre) (l .out) (l .i) (l .k) (l .inv) next (run .result) (run .ensures .0) (run .ensures .1) in
-    omega (arith, g .placed)
+    omega (arith, g .inside)
 
 write-byte-requires : tie.Need-write-byte-requires Inv-loop μ-loop
 write-byte-requires c κs =
@@ -55,7 +55,7 @@ write-byte-requires c κs =
     let run = c .before .before .before .before .before .copy-run in
     let next = run .last .1 .0 in
     let g = laid-run (a .input .now) (a .out .now) (c .before .before .before .before .before .before .before .before .before .before .before .pre) (l .out) (l .i) (l .k) (l .inv) next (run .result) (run .ensures .0) (run .ensures .1) in
-    byte-room (a .input .now) (a .out .now) (c .before .before .before .before .before .before .before .before .before .before .before .pre) next (l .i + run .result) (l .k + run .result) g (omega (arith, g .placed))
+    byte-room (a .input .now) (a .out .now) (c .before .before .before .before .before .before .before .before .before .before .before .pre) next (l .i + run .result) (l .k + run .result) g (omega (arith, g .inside))
 
 add-i-2 : tie.Need-add-i-2 Inv-loop μ-loop
 add-i-2 c =
@@ -64,7 +64,7 @@ add-i-2 c =
     let run = c .before .before .before .before .before .before .before .before .copy-run in
     let next = run .last .1 .0 in
     let g = laid-run (a .input .now) (a .out .now) (c .before .before .before .before .before .before .before .before .before .before .before .before .before .before .pre) (l .out) (l .i) (l .k) (l .inv) next (run .result) (run .ensures .0) (run .ensures .1) in
-    omega (arith, g .placed)
+    omega (arith, g .inside)
 
 loop-less : tie.Need-loop-less Inv-loop μ-loop
 loop-less c =
@@ -73,7 +73,7 @@ loop-less c =
     let run = c .before .before .before .before .before .before .before .before .copy-run in
     let next = run .last .1 .0 in
     let g = laid-run (a .input .now) (a .out .now) (c .before .before .before .before .before .before .before .before .before .before .before .before .before .before .pre) (l .out) (l .i) (l .k) (l .inv) next (run .result) (run .ensures .0) (run .ensures .1) in
-    omega (arith, g .placed)
+    omega (arith, g .inside)
 
 loop-again : tie.Need-loop-again Inv-loop μ-loop
 loop-again c =
@@ -82,7 +82,7 @@ loop-again c =
     let run = c .before .before .before .before .before .before .before .before .copy-run in
     let next = run .last .1 .0 in
     let g = laid-run (a .input .now) (a .out .now) (c .before .before .before .before .before .before .before .before .before .before .before .before .before .before .pre) (l .out) (l .i) (l .k) (l .inv) next (run .result) (run .ensures .0) (run .ensures .1) in
-    laid-byte (a .input .now) (a .out .now) (c .before .before .before .before .before .before .before .before .before .before .before .before .before .before .pre) next (l .i + run .result) (l .k + run .result) g (omega (arith, g .placed)) _ _ (c .before .before .write-byte .ensures .0) (c .before .before .write-byte .ensures .1)
+    laid-byte (a .input .now) (a .out .now) (c .before .before .before .before .before .before .before .before .before .before .before .before .before .before .pre) next (l .i + run .result) (l .k + run .result) g (omega (arith, g .inside)) _ _ (c .before .before .write-byte .ensures .0) (c .before .before .write-byte .ensures .1)
 
 same-length : tie.Need-same-length Inv-loop μ-loop
 same-length c = search needs

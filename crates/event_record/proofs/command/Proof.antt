@@ -63,7 +63,7 @@ returns-6 c = let a = c .before .before .before .before .before .before .before 
     let b = bodyOf written (command (a .asked) (a .request .now) (a .answered) (a .response .now)) in
     let l = length-command (a .asked) (a .answered) (a .request .now) (a .response .now) in
     accepted 8 g b (a .out .now) (search needs) (command-sound (a .asked) (a .answered) (a .request .now) (a .response .now) (search needs) (search needs)) (omega (arith, l)) _ _ (omega (arith, l))
-    (framed-laid 8 g _ b (a .out .now) _ _ (sym l) (c .before .before .before .before .before .before .put-head .ensures) (c .before .before .put-command .ensures))
+    (framed-laid 8 g _ b (a .out .now) _ _ (omega (arith, l)) (sym l) (c .before .before .before .before .before .before .put-head .ensures) (c .before .before .put-command .ensures))
 
 pub command-spec : {M : Type 1} → statement M
 command-spec =

@@ -1,5 +1,8 @@
 -- `event_record::put_head` lays the six bytes before a body over the start of the buffer. Assumes nothing.
 use mathlib.Core.Path.{_≡_, _∙_}
+use native.Mathlib.Omega.{arith}
+use Rattle.event_record.specs.Layout.{extra}
+use Rattle.event_record.proofs.Written.{head-laid}
 use borrow.Author.Needs.{needs}
 use Rattle.event_record.proofs.put_head.Statement.{statement}
 use Rattle.event_record.proofs.put_head.Tie as tie
@@ -32,7 +35,11 @@ same-length : tie.Need-same-length
 same-length c = search needs
 
 returns : tie.Need-returns
-returns c = c .before .before .copy-in .ensures ∙ rw (c .before .before .before .before .before .before .before .before .high .ensures, c .before .before .before .before .before .before .before .low .ensures, c .before .before .before .before .before .before .high2 .ensures, c .before .before .before .before .before .low2 .ensures)
+unfolding extra
+returns c =
+    let a = c .before .before .before .before .before .before .before .before .before .before .args in
+    head-laid _ (a .out .now) _ (omega arith) (c .before .before .copy-in .ensures)
+    ∙ rw (c .before .before .before .before .before .before .before .before .high .ensures, c .before .before .before .before .before .before .before .low .ensures, c .before .before .before .before .before .before .high2 .ensures, c .before .before .before .before .before .low2 .ensures)
 
 pub put-head-spec : {M : Type 1} → statement M
 put-head-spec =

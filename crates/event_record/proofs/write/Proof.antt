@@ -38,7 +38,7 @@ returns-4 : tie.Need-returns-4
 returns-4 c =
     let a = c .before .before .before .before .before .before .before .before .before .before .before .before .before .before .args in
     accepted (a .kind) (a .gateway .0) (a .body .now) (a .out .now) (search needs) (sym (c .before .before .before .before .before .before .before .before .before .before .sound-body .ensures) ∙ not-false _ (c .before .before .before .before .before .before .before .before .before .if2 .left)) (omega arith) _ _ refl
-    (framed-laid (a .kind) (a .gateway .0) _ (a .body .now) (a .out .now) _ _ refl (c .before .before .before .before .before .before .put-head .ensures) (c .before .before .copy-in .ensures))
+    (framed-laid (a .kind) (a .gateway .0) _ (a .body .now) (a .out .now) _ _ (omega arith) refl (c .before .before .before .before .before .before .put-head .ensures) (c .before .before .copy-in .ensures))
 
 pub write-spec : {M : Type 1} → statement M
 write-spec =

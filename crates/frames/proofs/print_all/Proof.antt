@@ -6,11 +6,12 @@ use Rattle.frames.proofs.print_all.Statement.{statement}
 use Rattle.frames.proofs.print_all.Tie as tie
 
 abbrev Inv-loop : tie.InvT-loop
-Inv-loop buf₀ out₀ place₀ body₀ at₀ turns₀ buf out place body at turns =
+Inv-loop fd name buf₀ out₀ numbers₀ body₀ turns₀ t11 buf out numbers body turns =
     (length buf ≡ length buf₀) × (length out ≡ length out₀)
 
 abbrev μ-loop : tie.MeasureT-loop
-μ-loop buf₀ out₀ place₀ body₀ at₀ turns₀ buf out place body at turns = turns
+μ-loop fd name buf₀ out₀ numbers₀ body₀ turns₀ t11 buf out numbers body turns =
+    turns
 
 loop-holds : tie.Need-loop-holds Inv-loop μ-loop
 loop-holds c = search needs
@@ -18,11 +19,11 @@ loop-holds c = search needs
 sub-turns : tie.Need-sub-turns Inv-loop μ-loop
 sub-turns c = search needs
 
-read-requires : tie.Need-read-requires Inv-loop μ-loop
-read-requires c κs = search needs
+read-block-requires : tie.Need-read-block-requires Inv-loop μ-loop
+read-block-requires c κs = search needs
 
-flush-requires : tie.Need-flush-requires Inv-loop μ-loop
-flush-requires c κs = search needs
+slice-aggregate-fail : tie.Need-slice-aggregate-fail Inv-loop μ-loop
+slice-aggregate-fail c = search needs
 
 fail-requires : tie.Need-fail-requires Inv-loop μ-loop
 fail-requires c κs = search needs
@@ -45,9 +46,6 @@ same-length-4 c = search needs
 returns-2 : tie.Need-returns-2 Inv-loop μ-loop
 returns-2 c = search needs
 
-count-requires : tie.Need-count-requires Inv-loop μ-loop
-count-requires c κs = search needs
-
 slice-reshare-prefix-print-block : tie.Need-slice-reshare-prefix-print-block Inv-loop μ-loop
 slice-reshare-prefix-print-block c = search needs
 
@@ -56,6 +54,9 @@ slice-aggregate-print-block c = search needs
 
 print-block-requires : tie.Need-print-block-requires Inv-loop μ-loop
 print-block-requires c κs = search needs
+
+turns-left-requires : tie.Need-turns-left-requires Inv-loop μ-loop
+turns-left-requires c κs = search needs
 
 loop-less : tie.Need-loop-less Inv-loop μ-loop
 loop-less c = search needs
@@ -80,8 +81,8 @@ print-all-spec =
     μ-loop
     loop-holds
     sub-turns
-    read-requires
-    flush-requires
+    read-block-requires
+    slice-aggregate-fail
     fail-requires
     same-length
     same-length-2
@@ -89,10 +90,10 @@ print-all-spec =
     same-length-3
     same-length-4
     returns-2
-    count-requires
     slice-reshare-prefix-print-block
     slice-aggregate-print-block
     print-block-requires
+    turns-left-requires
     loop-less
     loop-again
     same-length-5

@@ -8,10 +8,12 @@ use Rattle.frames.proofs.print_block.Statement.{statement}
 use Rattle.frames.proofs.print_block.Tie as tie
 
 abbrev Inv-loop : tie.InvT-loop
-Inv-loop place₀ body₀ s out₀ from at₀ i₀ place body out at i = (i ≤ length s) × (length out ≡ length out₀)
+Inv-loop numbers₀ body₀ s out₀ o₀ i₀ t10 t11 numbers body out o i =
+    (i ≤ length s) × (length out ≡ length out₀)
 
 abbrev μ-loop : tie.MeasureT-loop
-μ-loop place₀ body₀ s out₀ from at₀ i₀ place body out at i = length s - i
+μ-loop numbers₀ body₀ s out₀ o₀ i₀ t10 t11 numbers body out o i =
+    length s - i
 
 loop-holds : tie.Need-loop-holds Inv-loop μ-loop
 loop-holds c = search needs
@@ -22,17 +24,29 @@ feed-from-requires c κs = search needs
 put-answer-requires : tie.Need-put-answer-requires Inv-loop μ-loop
 put-answer-requires c κs = search needs
 
-loop-less : tie.Need-loop-less Inv-loop μ-loop
-loop-less c = search needs
+slice-aggregate-written : tie.Need-slice-aggregate-written Inv-loop μ-loop
+slice-aggregate-written c = search needs
 
-loop-again : tie.Need-loop-again Inv-loop μ-loop
-loop-again c = search needs
+written-requires : tie.Need-written-requires Inv-loop μ-loop
+written-requires c κs = search needs
 
 same-length : tie.Need-same-length Inv-loop μ-loop
 same-length c = search needs
 
 returns : tie.Need-returns Inv-loop μ-loop
 returns c = search needs
+
+loop-less : tie.Need-loop-less Inv-loop μ-loop
+loop-less c = search needs
+
+loop-again : tie.Need-loop-again Inv-loop μ-loop
+loop-again c = search needs
+
+slice-aggregate-written-2 : tie.Need-slice-aggregate-written-2 Inv-loop μ-loop
+slice-aggregate-written-2 c = search needs
+
+written-requires-2 : tie.Need-written-requires-2 Inv-loop μ-loop
+written-requires-2 c κs = search needs
 
 same-length-2 : tie.Need-same-length-2 Inv-loop μ-loop
 same-length-2 c = search needs
@@ -49,9 +63,13 @@ print-block-spec =
     loop-holds
     feed-from-requires
     put-answer-requires
+    slice-aggregate-written
+    written-requires
     same-length
     returns
     loop-less
     loop-again
+    slice-aggregate-written-2
+    written-requires-2
     same-length-2
     returns-2)

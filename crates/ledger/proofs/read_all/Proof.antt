@@ -4,16 +4,21 @@ use Rattle.ledger.proofs.read_all.Statement.{statement}
 use Rattle.ledger.proofs.read_all.Tie as tie
 
 abbrev Inv-loop : tie.InvT-loop
-Inv-loop fd buf₀ q₀ turns₀ buf q turns = Unit {0}
+Inv-loop fd name buf₀ r₀ turns₀ buf r turns =
+    Unit {0}
 
 abbrev μ-loop : tie.MeasureT-loop
-μ-loop fd buf₀ q₀ turns₀ buf q turns = turns
+μ-loop fd name buf₀ r₀ turns₀ buf r turns =
+    turns
 
 large-buffer-requires : tie.Need-large-buffer-requires Inv-loop μ-loop
 large-buffer-requires c κs = search needs
 
 slice-aggregate-buf : tie.Need-slice-aggregate-buf Inv-loop μ-loop
 slice-aggregate-buf c = search needs
+
+new-requires : tie.Need-new-requires Inv-loop μ-loop
+new-requires c κs = search needs
 
 loop-holds : tie.Need-loop-holds Inv-loop μ-loop
 loop-holds c = search needs
@@ -24,8 +29,23 @@ sub-turns c = search needs
 read-block-requires : tie.Need-read-block-requires Inv-loop μ-loop
 read-block-requires c κs = search needs
 
-enum-told : tie.Need-enum-told Inv-loop μ-loop
-enum-told c = search needs
+sub-finish : tie.Need-sub-finish Inv-loop μ-loop
+sub-finish c = search needs
+
+finish-requires : tie.Need-finish-requires Inv-loop μ-loop
+finish-requires c κs = search needs
+
+returns : tie.Need-returns Inv-loop μ-loop
+returns c = search needs
+
+slice-reshare-prefix-absorb : tie.Need-slice-reshare-prefix-absorb Inv-loop μ-loop
+slice-reshare-prefix-absorb c = search needs
+
+slice-aggregate-absorb : tie.Need-slice-aggregate-absorb Inv-loop μ-loop
+slice-aggregate-absorb c = search needs
+
+absorb-requires : tie.Need-absorb-requires Inv-loop μ-loop
+absorb-requires c κs = search needs
 
 loop-less : tie.Need-loop-less Inv-loop μ-loop
 loop-less c = search needs
@@ -33,20 +53,8 @@ loop-less c = search needs
 loop-again : tie.Need-loop-again Inv-loop μ-loop
 loop-again c = search needs
 
-enum-told-2 : tie.Need-enum-told-2 Inv-loop μ-loop
-enum-told-2 c = search needs
-
-returns : tie.Need-returns Inv-loop μ-loop
-returns c = search needs
-
-enum-told-3 : tie.Need-enum-told-3 Inv-loop μ-loop
-enum-told-3 c = search needs
-
 returns-2 : tie.Need-returns-2 Inv-loop μ-loop
 returns-2 c = search needs
-
-returns-3 : tie.Need-returns-3 Inv-loop μ-loop
-returns-3 c = search needs
 
 pub read-all-spec : {M : Type 1} → statement M
 read-all-spec =
@@ -56,14 +64,16 @@ read-all-spec =
     μ-loop
     large-buffer-requires
     slice-aggregate-buf
+    new-requires
     loop-holds
     sub-turns
     read-block-requires
-    enum-told
+    sub-finish
+    finish-requires
+    returns
+    slice-reshare-prefix-absorb
+    slice-aggregate-absorb
+    absorb-requires
     loop-less
     loop-again
-    enum-told-2
-    returns
-    enum-told-3
-    returns-2
-    returns-3)
+    returns-2)

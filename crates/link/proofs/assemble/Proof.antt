@@ -61,7 +61,8 @@ same-length c = search needs
 returns : tie.Need-returns
 returns c =
     let a = c .before .before .before .before .before .before .before .before .before .before .before .before .before .before .before .before .before .before .before .before .before .before .before .before .args in
-    assembled crcOf (frameAt (a .number) (a .kind) (a .payload .now)) (a .number) (a .body .now) _ _ _ _ _ _ _ _ _ _
+    assembled crcOf (frameAt (a .number) (a .frame-type) (a .payload .now)) (a .number) (a .body .now) _ _ _ _ _ _ _ _ _ _
+    (omega arith)
     (numberOf-addressOf (a .number))
     (c .before .before .before .before .before .before .before .before .before .before .before .before .before .before .before .before .before .before .before .before .before .high .ensures)
     (c .before .before .before .before .before .before .before .before .before .before .before .before .before .before .before .before .before .before .before .before .low .ensures)

@@ -1,10 +1,6 @@
 -- `link::bracket` is its two copies, one after the other. Assumes nothing.
-use mathlib.Core.Path.{ap, _∙_}
-use mathlib.Core.List.{List}
-use Prim.Native.Nat.{ℕ, _+_}
-use lib.ListN.{length}
-use lib.Seq.{paste}
-use Rattle.link.specs.Wire.{end}
+use native.Mathlib.Omega.{arith}
+use Rattle.link.proofs.Writes.{bracketed-copies}
 use borrow.Author.Needs.{needs}
 use Rattle.link.proofs.bracket.Statement.{statement}
 use Rattle.link.proofs.bracket.Tie as tie
@@ -27,7 +23,9 @@ same-length c = search needs
 returns : tie.Need-returns
 returns c =
     let a = c .before .before .before .before .before .before .before .before .before .before .before .args in
-    c .before .before .copy-in2 .ensures ∙ ap (λ (d : List ℕ). paste d (length (a .start .now) + a .m) end 2) (c .before .before .before .before .before .before .before .copy-in .ensures)
+    bracketed-copies (a .start .now) (a .out .now) _ _ (a .m) (omega arith)
+    (c .before .before .before .before .before .before .before .copy-in .ensures)
+    (c .before .before .copy-in2 .ensures)
 
 pub bracket-spec : {M : Type 1} → statement M
 bracket-spec =

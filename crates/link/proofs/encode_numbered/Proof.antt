@@ -42,7 +42,7 @@ returns-2 : tie.Need-returns-2
 unfolding numberedHanded numberedBytes encodedOf
 returns-2 c =
     let a = c .before .before .before .before .before .before .before .before .before .before .before .args in
-    let f : Frame = frameAt (a .number) (a .kind) (a .payload .now) in
+    let f : Frame = frameAt (a .number) (a .frame-type) (a .payload .now) in
     let e = le-ltb _ _ (c .before .before .before .before .before .before .before .before .if1 .left) in
     let b = body-taken crcOf f _ (replicate 256 0) (c .before .before .before .before .before .before .assemble .ensures) in
     (rw (e, ← b, numberOf-addressOf (a .number)) (c .before .before .write-body .ensures .0), rw (e, ← b, numberOf-addressOf (a .number)) (c .before .before .write-body .ensures .1))

@@ -1,46 +1,24 @@
--- `receive_frames::receive_response` is right: the gateway is looked for before the payload is looked at. Assumes nothing.
-use borrow.Author.Tests.{lt-ltb, le-ltb, eq-eqb, ne-eqb, not-true, not-false}
+-- `receive_frames::receive_response` is right: 13 and 32 are asked first, in this order. Assumes nothing.
+use borrow.Author.Tests.{lt-ltb, le-ltb}
 use Rattle.receive_frames.specs.Receive.{receiveResponseIn}
 use borrow.Author.Needs.{needs}
 use Rattle.receive_frames.proofs.receive_response.Statement.{statement}
 use Rattle.receive_frames.proofs.receive_response.Tie as tie
 
-raise-requires : tie.Need-raise-requires
-raise-requires c κs = search needs
-
 returns : tie.Need-returns
 unfolding receiveResponseIn
-returns c = rw (c .raise .ensures, not-true (c .before .before .before .before .args .from) (c .before .before .if1 .taken))
-
-gateway-key-requires : tie.Need-gateway-key-requires
-gateway-key-requires c κs = search needs
-
-find-requires : tie.Need-find-requires
-find-requires c κs = search needs
-
-known-response-requires : tie.Need-known-response-requires
-known-response-requires c κs = search needs
+returns c = rw (lt-ltb _ _ (c .if1 .taken))
 
 returns-2 : tie.Need-returns-2
 unfolding receiveResponseIn
-returns-2 c = rw (not-false (c .before .before .before .before .before .before .before .before .before .args .from) (c .before .before .before .before .before .before .before .if1 .left), ← c .before .before .before .before .before .before .gateway-key .ensures, ← c .before .before .before .before .find .ensures, lt-ltb _ _ (c .before .before .before .if2 .taken)) (c .known-response .ensures)
+returns-2 c = rw (le-ltb _ _ (c .before .if1 .left), lt-ltb _ _ (c .if2 .taken))
 
-raise-requires-2 : tie.Need-raise-requires-2
-raise-requires-2 c κs = search needs
+answer-requires : tie.Need-answer-requires
+answer-requires c κs = search needs
 
 returns-3 : tie.Need-returns-3
 unfolding receiveResponseIn
-returns-3 c = rw (c .raise2 .ensures, not-false (c .before .before .before .before .before .before .before .before .args .from) (c .before .before .before .before .before .before .if1 .left), ← c .before .before .before .before .before .gateway-key .ensures, ← c .before .before .before .find .ensures, le-ltb _ _ (c .before .before .if2 .left))
+returns-3 c = rw (le-ltb _ _ (c .before .before .before .before .if1 .left), le-ltb _ _ (c .before .before .before .if2 .left)) (c .answer .ensures)
 
 pub receive-response-spec : {M : Type 1} → statement M
-receive-response-spec =
-    tie.close
-    (tie.spec
-    raise-requires
-    returns
-    gateway-key-requires
-    find-requires
-    known-response-requires
-    returns-2
-    raise-requires-2
-    returns-3)
+receive-response-spec = tie.close (tie.spec returns returns-2 answer-requires returns-3)

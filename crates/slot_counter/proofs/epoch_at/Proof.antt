@@ -1,4 +1,4 @@
--- `epoch_at` takes the four places apart. Assumes nothing.
+-- `epoch_at` takes the four indices apart. Assumes nothing.
 use mathlib.Core.Path.{refl}
 use Rattle.slot_counter.specs.Slots.{epochAt}
 use Rattle.slot_counter.proofs.Laws.{epochAt-last}

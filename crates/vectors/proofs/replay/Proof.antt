@@ -7,10 +7,10 @@ use Rattle.vectors.proofs.replay.Statement.{statement}
 use Rattle.vectors.proofs.replay.Tie as tie
 
 abbrev Inv-loop : tie.InvT-loop
-Inv-loop kind text all₀ agreed₀ i₀ all agreed i = i ≤ length text + 1
+Inv-loop letter text all₀ agreed₀ i₀ all agreed i = i ≤ length text + 1
 
 abbrev μ-loop : tie.MeasureT-loop
-μ-loop kind text all₀ agreed₀ i₀ all agreed i = length text + 1 - i
+μ-loop letter text all₀ agreed₀ i₀ all agreed i = length text + 1 - i
 
 loop-holds : tie.Need-loop-holds Inv-loop μ-loop
 loop-holds c = search needs

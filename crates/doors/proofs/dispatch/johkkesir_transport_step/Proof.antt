@@ -18,7 +18,7 @@ answer-number-requires c κs = search needs
 
 returns : tie.Need-returns
 returns c =
-    let s = c .before .before .step-in .ensures in
+    let s = c .before .before .step-in .ensures .0 in
     let a = c .before .before .before .before .before .before .before .before .before .before .before .before .address-toward .ensures in
     (rw (c .answer-number .ensures, ← a, ← s), (rw (c .before .news-by .ensures, ← a, ← s), rw (← a, ← s)))
 

@@ -114,7 +114,7 @@ returns-3 : tie.Need-returns-3
 returns-3 c = rw (c .before .before .before .a3 .given .1, as-number)
 
 returns-4 : tie.Need-returns-4
-returns-4 c = rw (c .before .a4 .given .1)
+returns-4 c = rw (c .before .before .before .a4 .given .1)
 
 returns-5 : tie.Need-returns-5
 returns-5 c = rw (c .enum-told .given .1)

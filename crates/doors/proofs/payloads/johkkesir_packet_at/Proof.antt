@@ -1,4 +1,4 @@
--- `doors::payloads::johkkesir_packet_at` hands on what `packet_at` finds, as a kind and two places. Assumes nothing.
+-- `doors::payloads::johkkesir_packet_at` hands on what `packet_at` finds, as its number and two bounds. Assumes nothing.
 use mathlib.Core.Path.{_≡_, refl}
 use borrow.Author.Needs.{needs}
 use Rattle.doors.proofs.payloads.johkkesir_packet_at.Statement.{statement}

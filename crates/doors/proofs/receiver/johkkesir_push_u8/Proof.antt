@@ -5,10 +5,10 @@ use borrow.Author.Needs.{needs}
 use Rattle.crc.specs.Crc.{crcOf}
 use Rattle.link_receive.specs.declared.Answer.{Answer}
 use Rattle.link_receive.specs.declared.Answer.the-variants as answer
-use Rattle.link_receive.specs.declared.numbered.Placed.{Placed}
+use Rattle.link_receive.specs.declared.numbered.Numbers.{Numbers}
 use Rattle.link_receive.specs.Numbered.{receiverAt}
-use Rattle.link_receive.specs.Step.{stepOf}
-use Rattle.link_receive.proofs.Numbers.{placedOf-within}
+use Rattle.link_receive.specs.Step.{rulesOf, stepOf}
+use Rattle.link_receive.proofs.Numbers.{numbersTold-within}
 use Rattle.link_receive.proofs.Steps.{stepOf-over}
 use Rattle.link_feed.proofs.Drains.{stepOf-steady}
 use Rattle.doors.specs.Receivers.{takenBy}
@@ -25,9 +25,10 @@ array-read-if1 : tie.Need-array-read-if1
 array-read-if1 c = search needs
 
 returns : tie.Need-returns
+unfolding rulesOf
 returns c =
     let a = c .before .before .args in
-    let o = stepOf-over crcOf (receiverAt (a .place .now) (a .body .now)) (a .b) (c .if1 .taken) in
+    let o = stepOf-over crcOf (receiverAt (a .numbers .now) (a .body .now)) (a .b) (c .if1 .taken) in
     (rw o, (rw (lt-ltb _ _ (c .if1 .taken)), (rw o, rw o)))
 
 receiver-at-requires : tie.Need-receiver-at-requires
@@ -36,8 +37,8 @@ receiver-at-requires c κs = search needs
 push-u8-requires : tie.Need-push-u8-requires
 push-u8-requires c κs = search needs
 
-place-of-requires : tie.Need-place-of-requires
-place-of-requires c κs = search needs
+numbers-of-requires : tie.Need-numbers-of-requires
+numbers-of-requires c κs = search needs
 
 found-by-requires : tie.Need-found-by-requires
 found-by-requires c κs = search needs
@@ -46,16 +47,17 @@ told-by-requires : tie.Need-told-by-requires
 told-by-requires c κs = search needs
 
 returns-2 : tie.Need-returns-2
+unfolding rulesOf
 returns-2 c =
     let a = c .before .before .before .before .before .before .before .before .before .before .before .args in
-    let q = receiverAt (a .place .now) (a .body .now) in
+    let q = receiverAt (a .numbers .now) (a .body .now) in
     let f = c .before .before .before .before .before .before .push-u8 .ensures in
     let r = c .before .before .before .before .before .before .before .receiver-at .ensures in
     let within = c .before .before .before .before .before .before .before .before .before .if1 .left in
     let steady = stepOf-steady crcOf q (a .b) within in
-    let put = ap (λ (p : Placed). p .place) (c .before .before .before .place-of .ensures) in (
+    let put = ap (λ (p : Numbers). p .numbers) (c .before .before .before .numbers-of .ensures) in (
       rw (c .told-by .ensures, f, r),
-      (rw (put, f, r, le-ltb _ _ within) (placedOf-within (stepOf crcOf q (a .b) .next) (steady .within)), (rw (f, r), rw (c .before .found-by .ensures, f, r, taken-one (stepOf crcOf q (a .b) .answer) (steady .answers)))),
+      (rw (put, f, r, le-ltb _ _ within) (numbersTold-within (stepOf crcOf q (a .b) .next) (steady .within)), (rw (f, r), rw (c .before .found-by .ensures, f, r, taken-one (stepOf crcOf q (a .b) .answer) (steady .answers)))),
     )
 
 pub johkkesir-push-u8-spec : {M : Type 1} → statement M
@@ -66,7 +68,7 @@ johkkesir-push-u8-spec =
     returns
     receiver-at-requires
     push-u8-requires
-    place-of-requires
+    numbers-of-requires
     found-by-requires
     told-by-requires
     returns-2)

@@ -1,4 +1,4 @@
--- `doors::slots::epoch_named` gives the epochs by their places. Assumes nothing.
+-- `doors::slots::epoch_named` gives the epochs by their indices. Assumes nothing.
 use mathlib.Core.Path.{_≡_}
 use borrow.Author.Tests.{ne-eqb}
 use Rattle.slot_counter.specs.Slots.{epochAt}
@@ -21,7 +21,7 @@ returns-4 : tie.Need-returns-4
 unfolding epochAt
 returns-4 c =
     let n = c .match .rest in
-    let z = c .before .args .place in
+    let z = c .before .args .index in
     rw (ne-eqb z 0 (n .0 .0 .1), ne-eqb z 1 (n .0 .1), ne-eqb z 2 (n .1))
 
 pub epoch-named-spec : {M : Type 1} → statement M

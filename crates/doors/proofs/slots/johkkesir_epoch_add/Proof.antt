@@ -1,4 +1,4 @@
--- `doors::slots::johkkesir_epoch_add` adds to the epoch of a place. Assumes nothing.
+-- `doors::slots::johkkesir_epoch_add` adds to the epoch of an index. Assumes nothing.
 use mathlib.Core.Path.{_≡_}
 use borrow.Author.Needs.{needs}
 use Rattle.doors.proofs.slots.johkkesir_epoch_add.Statement.{statement}
@@ -10,12 +10,12 @@ epoch-named-requires c κs = search needs
 add-requires : tie.Need-add-requires
 add-requires c κs = search needs
 
-place-requires : tie.Need-place-requires
-place-requires c κs = search needs
+index-requires : tie.Need-index-requires
+index-requires c κs = search needs
 
 returns : tie.Need-returns
-returns c = rw (c .place .ensures, c .before .add .ensures, c .before .before .epoch-named .ensures)
+returns c = rw (c .index .ensures, c .before .add .ensures, c .before .before .epoch-named .ensures)
 
 pub johkkesir-epoch-add-spec : {M : Type 1} → statement M
 johkkesir-epoch-add-spec =
-    tie.close (tie.spec epoch-named-requires add-requires place-requires returns)
+    tie.close (tie.spec epoch-named-requires add-requires index-requires returns)

@@ -2,7 +2,7 @@
 use mathlib.Core.Path.{sym, ap, _∙_}
 use native.Mathlib.Omega.{arith}
 use Rattle.event_record.specs.Handed.{handed}
-use Rattle.records.proofs.Writes.{handed-within, length-rest}
+use Rattle.event_log.proofs.Writes.{handed-within, length-rest}
 use borrow.Author.Needs.{needs}
 use Rattle.events.proofs.blocks.put_records.Statement.{statement}
 use Rattle.events.proofs.blocks.put_records.Tie as tie

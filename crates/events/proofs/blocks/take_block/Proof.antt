@@ -8,11 +8,11 @@ use Rattle.events.proofs.blocks.take_block.Statement.{statement}
 use Rattle.events.proofs.blocks.take_block.Tie as tie
 
 abbrev Inv-loop : tie.InvT-loop
-Inv-loop place₀ body₀ s nkeys₀ numbers₀ skeys₀ sequences₀ ckeys₀ ctypes₀ clengths₀ cpayloads₀ counters₀ out₀ log₀ i₀ place body nkeys numbers skeys sequences ckeys ctypes clengths cpayloads counters out log i =
+Inv-loop receiver₀ body₀ s nkeys₀ numbers₀ skeys₀ sequences₀ ckeys₀ ctypes₀ clengths₀ cpayloads₀ counters₀ out₀ asked o₀ i₀ receiver body nkeys numbers skeys sequences ckeys ctypes clengths cpayloads counters out o i =
     (i ≤ length s) × (length out ≡ length out₀)
 
 abbrev μ-loop : tie.MeasureT-loop
-μ-loop place₀ body₀ s nkeys₀ numbers₀ skeys₀ sequences₀ ckeys₀ ctypes₀ clengths₀ cpayloads₀ counters₀ out₀ log₀ i₀ place body nkeys numbers skeys sequences ckeys ctypes clengths cpayloads counters out log i =
+μ-loop receiver₀ body₀ s nkeys₀ numbers₀ skeys₀ sequences₀ ckeys₀ ctypes₀ clengths₀ cpayloads₀ counters₀ out₀ asked o₀ i₀ receiver body nkeys numbers skeys sequences ckeys ctypes clengths cpayloads counters out o i =
     length s - i
 
 loop-holds : tie.Need-loop-holds Inv-loop μ-loop
@@ -24,17 +24,17 @@ feed-from-requires c κs = search needs
 take-answer-requires : tie.Need-take-answer-requires Inv-loop μ-loop
 take-answer-requires c κs = search needs
 
-loop-less : tie.Need-loop-less Inv-loop μ-loop
-loop-less c = search needs
-
-loop-again : tie.Need-loop-again Inv-loop μ-loop
-loop-again c = search needs
-
 same-length : tie.Need-same-length Inv-loop μ-loop
 same-length c = search needs
 
 returns : tie.Need-returns Inv-loop μ-loop
 returns c = search needs
+
+loop-less : tie.Need-loop-less Inv-loop μ-loop
+loop-less c = search needs
+
+loop-again : tie.Need-loop-again Inv-loop μ-loop
+loop-again c = search needs
 
 same-length-2 : tie.Need-same-length-2 Inv-loop μ-loop
 same-length-2 c = search needs

@@ -5,6 +5,7 @@ use native.Mathlib.Omega.{arith}
 use lib.ListN.{length}
 use borrow.Author.Needs.{needs}
 use Rattle.crc.specs.Crc.{crcOf}
+use Rattle.link_receive.specs.Step.{freshOf, rulesOf}
 use Rattle.link_receive.specs.Numbered.{talliesAt}
 use Rattle.link_feed.specs.Advance.{heldOf, wentOf}
 use Rattle.link_feed.proofs.Goings.{Going, going-ahead, going-onward, going-stops, going-ends}
@@ -19,19 +20,22 @@ abbrev μ-loop : tie.MeasureT-loop
 μ-loop len0 tallies₀ body₀ s i0 stop state₀ len₀ i₀ tallies body state len i = length s - i
 
 loop-holds : tie.Need-loop-holds Inv-loop μ-loop
-loop-holds c = (record { placed = search needs; within = search needs; sized = search needs; same = refl }, search needs)
+unfolding rulesOf
+loop-holds c = (record { inside = search needs; within = search needs; sized = search needs; same = refl }, search needs)
 
 ahead-requires : tie.Need-ahead-requires Inv-loop μ-loop
+unfolding rulesOf
 ahead-requires c κs = (search needs, search needs, search needs)
 
 onward-requires : tie.Need-onward-requires Inv-loop μ-loop
+unfolding rulesOf
 onward-requires c κs =
     let a = c .before .before .before .before .before .before .before .before .before .before .before .before .args in
     let l = c .before .before .before .before .before .before .before .before .loop in
     let h = c .before .before .before .before .before .ahead in
     let next = h .last .1 .1 .0 in
-    let g = going-ahead crcOf (a .s .now) (a .stop) _ (l .state) (l .body) (l .len) (talliesAt (l .tallies)) (l .i) next (h .result) (l .inv .0) (h .ensures) (h .kept .1 .1 .0) in
-    (g .within, g .sized, l .inv .1, omega (arith, g .placed))
+    let g = going-ahead crcOf (a .s .now) (a .stop) _ freshOf (l .state) (l .body) (l .len) (talliesAt (l .tallies)) (l .i) next (h .result) (l .inv .0) (h .ensures) (h .kept .1 .1 .0) in
+    (g .within, g .sized, l .inv .1, omega (arith, g .inside))
 
 stops-requires : tie.Need-stops-requires Inv-loop μ-loop
 stops-requires c κs = search needs
@@ -48,7 +52,7 @@ returns c =
     let l = c .before .before .before .before .before .before .before .before .before .before .before .before .before .before .before .loop in
     let h = c .before .before .before .before .before .before .before .before .before .before .before .before .ahead in
     let next = h .last .1 .1 .0 in
-    let g = going-ahead crcOf (a .s .now) (a .stop) _ (l .state) (l .body) (l .len) (talliesAt (l .tallies)) (l .i) next (h .result) (l .inv .0) (h .ensures) (h .kept .1 .1 .0) in
+    let g = going-ahead crcOf (a .s .now) (a .stop) _ freshOf (l .state) (l .body) (l .len) (talliesAt (l .tallies)) (l .i) next (h .result) (l .inv .0) (h .ensures) (h .kept .1 .1 .0) in
     let o = c .before .before .before .before .before .before .onward in
     let r = heldOf (l .state) next (h .result .len) (l .tallies) in
     let q = heldOf (o .result .state) (o .last .1 .1 .1 .0) (o .result .len) (o .last .1 .1 .0) in
@@ -58,7 +62,7 @@ loop-less : tie.Need-loop-less Inv-loop μ-loop
 loop-less c =
     let h = c .before .before .before .before .before .before .before .before .before .before .before .before .ahead in
     let o = c .before .before .before .before .before .before .onward in
-    omega (arith, o .ensures .further, o .ensures .placed, h .ensures .further)
+    omega (arith, o .ensures .further, o .ensures .inside, h .ensures .further)
 
 loop-again : tie.Need-loop-again Inv-loop μ-loop
 loop-again c =
@@ -66,7 +70,7 @@ loop-again c =
     let l = c .before .before .before .before .before .before .before .before .before .before .before .before .before .before .before .loop in
     let h = c .before .before .before .before .before .before .before .before .before .before .before .before .ahead in
     let next = h .last .1 .1 .0 in
-    let g = going-ahead crcOf (a .s .now) (a .stop) _ (l .state) (l .body) (l .len) (talliesAt (l .tallies)) (l .i) next (h .result) (l .inv .0) (h .ensures) (h .kept .1 .1 .0) in
+    let g = going-ahead crcOf (a .s .now) (a .stop) _ freshOf (l .state) (l .body) (l .len) (talliesAt (l .tallies)) (l .i) next (h .result) (l .inv .0) (h .ensures) (h .kept .1 .1 .0) in
     let o = c .before .before .before .before .before .before .onward in
     let r = heldOf (l .state) next (h .result .len) (l .tallies) in
     let q = heldOf (o .result .state) (o .last .1 .1 .1 .0) (o .result .len) (o .last .1 .1 .0) in
@@ -96,7 +100,7 @@ returns-3 c =
     let l = c .before .before .before .before .before .before .loop in
     let h = c .before .before .before .ahead in
     let next = h .last .1 .1 .0 in
-    let g = going-ahead crcOf (a .s .now) (a .stop) _ (l .state) (l .body) (l .len) (talliesAt (l .tallies)) (l .i) next (h .result) (l .inv .0) (h .ensures) (h .kept .1 .1 .0) in
+    let g = going-ahead crcOf (a .s .now) (a .stop) _ freshOf (l .state) (l .body) (l .len) (talliesAt (l .tallies)) (l .i) next (h .result) (l .inv .0) (h .ensures) (h .kept .1 .1 .0) in
     going-ends crcOf (a .s .now) (a .stop) _ (heldOf (l .state) next (h .result .len) (l .tallies)) (h .result .at) g (omega arith)
 
 pub advance-spec : {M : Type 1} → statement M

@@ -3,10 +3,11 @@ use Prim.Native.Nat.{ℕ, _+_}
 use native.Mathlib.Omega.{arith}
 use borrow.Author.Needs.{needs}
 use Rattle.crc.specs.Crc.{crcOf}
-use Rattle.runs.specs.Runs.{isOf}
-use Rattle.runs.specs.declared.Sort.the-variants as sort
-use Rattle.runs.proofs.Laws.{run-placed, run-all}
+use Rattle.byte_runs.specs.Runs.{isOf}
+use Rattle.byte_runs.specs.declared.Sort.the-variants as sort
+use Rattle.byte_runs.proofs.Laws.{run-inside, run-all}
 use Rattle.link_receive.specs.declared.State.the-variants.{Idle, Noise, Frame}
+use Rattle.link_receive.specs.Step.{freshOf, rulesOf}
 use Rattle.link_feed.proofs.Skips.{turnOf-idle, turnOf-noise, feedFrom-stays}
 use Rattle.link_feed.proofs.feeding.ahead.Statement.{statement}
 use Rattle.link_feed.proofs.feeding.ahead.Tie as tie
@@ -20,7 +21,7 @@ run-requires c κs = search needs
 add-t11 : tie.Need-add-t11
 add-t11 c =
     let a = c .before .before .before .before .before .args in
-    omega (arith, run-placed (isOf sort.Idle) (a .s .now) (a .i) (c .run .result) (search needs) (c .run .ensures))
+    omega (arith, run-inside (isOf sort.Idle) (a .s .now) (a .i) (c .run .result) (search needs) (c .run .ensures))
 
 enum-told-2 : tie.Need-enum-told-2
 enum-told-2 c = search needs
@@ -31,7 +32,7 @@ run-requires-2 c κs = search needs
 add-t13 : tie.Need-add-t13
 add-t13 c =
     let a = c .before .before .before .before .before .args in
-    omega (arith, run-placed (isOf sort.Noise) (a .s .now) (a .i) (c .run2 .result) (search needs) (c .run2 .ensures))
+    omega (arith, run-inside (isOf sort.Noise) (a .s .now) (a .i) (c .run2 .result) (search needs) (c .run2 .ensures))
 
 enum-told-3 : tie.Need-enum-told-3
 enum-told-3 c = search needs
@@ -50,12 +51,12 @@ returns c =
     let a = c .before .before .before .before .before .args in
     let s = a .s .now in
     let k = c .run .result in
-    let placed = run-placed (isOf sort.Idle) s (a .i) k (search needs) (c .run .ensures) in
+    let inside = run-inside (isOf sort.Idle) s (a .i) k (search needs) (c .run .ensures) in
     record {
-      placed = placed;
+      inside = inside;
       further = omega arith;
       within = search needs;
-      same = λ t. rw (c .before .enum-told .given .1) (feedFrom-stays crcOf s Idle (isOf sort.Idle) (a .len) (turnOf-idle (a .len)) (search needs) (a .body .now) t (a .i) k placed (run-all (isOf sort.Idle) s (a .i) k (search needs) (c .run .ensures)));
+      same = λ t. rw (c .before .enum-told .given .1) (feedFrom-stays crcOf freshOf s Idle (isOf sort.Idle) (a .len) (turnOf-idle (rulesOf freshOf) (a .len)) (search needs) (a .body .now) t (a .i) k inside (run-all (isOf sort.Idle) s (a .i) k (search needs) (c .run .ensures)));
     }
 
 returns-2 : tie.Need-returns-2
@@ -63,12 +64,12 @@ returns-2 c =
     let a = c .before .before .before .before .before .args in
     let s = a .s .now in
     let k = c .run2 .result in
-    let placed = run-placed (isOf sort.Noise) s (a .i) k (search needs) (c .run2 .ensures) in
+    let inside = run-inside (isOf sort.Noise) s (a .i) k (search needs) (c .run2 .ensures) in
     record {
-      placed = placed;
+      inside = inside;
       further = omega arith;
       within = search needs;
-      same = λ t. rw (c .before .enum-told2 .given .1) (feedFrom-stays crcOf s Noise (isOf sort.Noise) (a .len) (turnOf-noise (a .len)) (search needs) (a .body .now) t (a .i) k placed (run-all (isOf sort.Noise) s (a .i) k (search needs) (c .run2 .ensures)));
+      same = λ t. rw (c .before .enum-told2 .given .1) (feedFrom-stays crcOf freshOf s Noise (isOf sort.Noise) (a .len) (turnOf-noise (rulesOf freshOf) (a .len)) (search needs) (a .body .now) t (a .i) k inside (run-all (isOf sort.Noise) s (a .i) k (search needs) (c .run2 .ensures)));
     }
 
 same-length : tie.Need-same-length
@@ -78,7 +79,7 @@ returns-3 : tie.Need-returns-3
 returns-3 c =
     let u = c .before .before .units in
     record {
-      placed = u .ensures .placed;
+      inside = u .ensures .inside;
       further = u .ensures .further;
       within = u .ensures .within;
       same = rw (c .before .before .before .before .enum-told3 .given .1) (u .ensures .same);
@@ -89,7 +90,7 @@ returns-4 c =
     let a = c .before .before .before .before .before .args in
     let k = c .tail .ensures in
     record {
-      placed = k .placed;
+      inside = k .inside;
       further = k .further;
       within = search needs;
       same = λ t. rw (c .before .enum-told4 .given .1) (k .same (a .body .now) (a .len) t (search needs));

@@ -3,6 +3,7 @@ use mathlib.Core.Path.{_≡_, sym, _∙_}
 use borrow.Author.Needs.{needs}
 use native.Mathlib.Omega.{arith}
 use Rattle.crc.specs.Crc.{crcOf}
+use Rattle.link_receive.specs.Step.{rulesOf}
 use Rattle.link_feed.specs.Advance.{heldOf}
 use Rattle.link_receive.proofs.Turns.{turnOf-push}
 use Rattle.link_receive.proofs.Steps.{stepOf-within}
@@ -19,9 +20,11 @@ enum-known-d : tie.Need-enum-known-d
 enum-known-d c = search needs
 
 slice-write-body : tie.Need-slice-write-body
-slice-write-body c = omega (arith, turnOf-push _ _ _ _ (sym (c .before .before .before .turn .ensures) ∙ c .before .d .given .1))
+unfolding rulesOf
+slice-write-body c = omega (arith, turnOf-push _ _ _ _ _ (sym (c .before .before .before .turn .ensures) ∙ c .before .d .given .1))
 
 add-t16 : tie.Need-add-t16
+unfolding rulesOf
 add-t16 c = search needs
 
 enum-known-tally : tie.Need-enum-known-tally
@@ -43,9 +46,11 @@ enum-told-2 : tie.Need-enum-told-2
 enum-told-2 c = search needs
 
 close-requires : tie.Need-close-requires
+unfolding rulesOf
 close-requires c κs = search needs
 
 returns : tie.Need-returns
+unfolding rulesOf
 returns c =
     let a = c .before .before .before .before .before .before .args in
     let r = heldOf (a .state) (a .body .now) (a .len) (a .tallies .now) in
@@ -57,17 +62,19 @@ same-length : tie.Need-same-length
 same-length c = search needs
 
 returns-2 : tie.Need-returns-2
+unfolding rulesOf
 returns-2 c =
     let a = c .before .before .before .before .before .before .args in
     let r = heldOf (a .state) (a .body .now) (a .len) (a .tallies .now) in
     let m = sym (c .before .before .before .turn .ensures) ∙ c .before .d .given .1 in
     let e = stepOf-within crcOf r (a .b) _ (c .before .before .before .before .before .before .pre .0) m in
-    (sym e, omega (arith, turnOf-push _ _ _ _ m))
+    (sym e, omega (arith, turnOf-push _ _ _ _ _ m))
 
 same-length-2 : tie.Need-same-length-2
 same-length-2 c = search needs
 
 returns-3 : tie.Need-returns-3
+unfolding rulesOf
 returns-3 c =
     let a = c .before .before .before .before .before .before .before .before .before .before .args in
     let r = heldOf (a .state) (a .body .now) (a .len) (a .tallies .now) in
@@ -79,6 +86,7 @@ same-length-3 : tie.Need-same-length-3
 same-length-3 c = search needs
 
 returns-4 : tie.Need-returns-4
+unfolding rulesOf
 returns-4 c =
     let a = c .before .before .before .before .before .before .before .before .before .before .before .before .before .args in
     let r = heldOf (a .state) (a .body .now) (a .len) (a .tallies .now) in
@@ -93,6 +101,7 @@ same-length-5 : tie.Need-same-length-5
 same-length-5 c = search needs
 
 returns-5 : tie.Need-returns-5
+unfolding rulesOf
 returns-5 c =
     let a = c .before .before .before .before .before .before .before .before .before .before .args in
     let r = heldOf (a .state) (a .body .now) (a .len) (a .tallies .now) in

@@ -4,6 +4,7 @@ use borrow.Author.Needs.{needs}
 use native.Mathlib.Omega.{arith}
 use Rattle.crc.specs.Crc.{crcOf}
 use Rattle.link_receive.specs.declared.State.the-variants.{Idle, FrameEscape}
+use Rattle.link_receive.specs.Step.{freshOf, rulesOf}
 use Rattle.link_receive.specs.Numbered.{talliesAt}
 use Rattle.link_feed.specs.Advance.{heldOf}
 use Rattle.link_feed.proofs.Onwards.{onward-opener, onward-closer, onward-one}
@@ -26,6 +27,7 @@ enum-told-2 : tie.Need-enum-told-2
 enum-told-2 c = search needs
 
 close-requires : tie.Need-close-requires
+unfolding rulesOf
 close-requires c κs = search needs
 
 add-t25 : tie.Need-add-t25
@@ -50,7 +52,7 @@ returns : tie.Need-returns
 returns c =
     let a = c .before .before .before .before .before .before .before .before .before .before .args in
     let p = rw (c .before .before .before .before .enum-told .given .1) at (c .before .before .before .before .before .before .pair .ensures) in
-    rw (p .0) (onward-opener crcOf (a .s .now) (a .body .now) (a .len) (talliesAt (a .tallies .now)) (a .i) (c .before .before .before .before .before .before .before .before .before .before .pre .0) _ (p .1) (c .before .before .raise .ensures))
+    rw (p .0) (onward-opener crcOf (a .s .now) freshOf (a .body .now) (a .len) (talliesAt (a .tallies .now)) (a .i) (c .before .before .before .before .before .before .before .before .before .before .pre .0) _ (p .1) (c .before .before .raise .ensures))
 
 same-length-2 : tie.Need-same-length-2
 same-length-2 c = search needs
@@ -62,7 +64,7 @@ returns-2 : tie.Need-returns-2
 returns-2 c =
     let a = c .before .before .before .before .before .before .before .before .before .before .before .args in
     let p = rw (c .before .before .before .before .before .enum-told2 .given .1) at (c .before .before .before .before .before .before .before .pair .ensures) in
-    rw (p .0) (onward-closer crcOf (a .s .now) (a .body .now) (a .len) (talliesAt (a .tallies .now)) (a .i) (c .before .before .before .before .before .before .before .before .before .before .before .pre .0) _ _ (p .1) (omega arith) (c .before .before .close .ensures FrameEscape))
+    rw (p .0) (onward-closer crcOf (a .s .now) freshOf (a .body .now) (a .len) (talliesAt (a .tallies .now)) (a .i) (c .before .before .before .before .before .before .before .before .before .before .before .pre .0) _ _ (p .1) (omega arith) (c .before .before .close .ensures FrameEscape))
 
 same-length-4 : tie.Need-same-length-4
 same-length-4 c = search needs
@@ -71,6 +73,7 @@ same-length-5 : tie.Need-same-length-5
 same-length-5 c = search needs
 
 returns-3 : tie.Need-returns-3
+unfolding rulesOf
 returns-3 c =
     let a = c .before .before .before .before .before .before .before .before .before .before .before .before .before .before .args in
     onward-one crcOf (a .s .now) (heldOf (a .state) (a .body .now) (a .len) (a .tallies .now)) _ _ (a .i) (search needs) (c .before .before .before .before .before .before .before .before .before .before .before .before .before .before .pre .0) (c .before .before .before .before .one .ensures .1) (c .before .before .before .before .one .ensures .0)

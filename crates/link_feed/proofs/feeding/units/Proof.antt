@@ -6,13 +6,15 @@ use native.Mathlib.Omega.{arith}
 use lib.ListN.{length, getD}
 use borrow.Author.Needs.{needs}
 use Rattle.crc.specs.Crc.{crcOf}
+use Rattle.link_receive.specs.Step.{freshOf, rulesOf}
+use Rattle.link_receive.proofs.Rules.{limit-full}
 use Rattle.link_receive.proofs.Turns.{escape-push}
-use Rattle.link_feed.proofs.Skips.{Held, placeOf, held-none, held-run, held-escape}
+use Rattle.link_feed.proofs.Skips.{Held, headway, held-none, held-run, held-escape}
 use Rattle.link_feed.proofs.feeding.units.Statement.{statement}
 use Rattle.link_feed.proofs.feeding.units.Tie as tie
 
 abbrev Inv-loop : tie.InvT-loop
-Inv-loop len0 body₀ s i0 len₀ i₀ body len i = Held crcOf s body₀ len₀ i₀ body (placeOf len i)
+Inv-loop len0 body₀ s i0 len₀ i₀ body len i = Held crcOf freshOf s body₀ len₀ i₀ body (headway len i)
 
 abbrev μ-loop : tie.MeasureT-loop
 μ-loop len0 body₀ s i0 len₀ i₀ body len i = length s - i
@@ -20,12 +22,13 @@ abbrev μ-loop : tie.MeasureT-loop
 loop-holds : tie.Need-loop-holds Inv-loop μ-loop
 loop-holds c =
     let a = c .before .before .args in
-    held-none crcOf (a .s .now) (a .body .now) (a .len0) (a .i0) (search needs) (search needs) (search needs)
+    held-none crcOf freshOf (a .s .now) (a .body .now) (a .len0) (a .i0) (search needs) (search needs) (search needs)
 
 copy-run-requires : tie.Need-copy-run-requires Inv-loop μ-loop
 copy-run-requires c κs = search needs
 
 add-len : tie.Need-add-len Inv-loop μ-loop
+unfolding rulesOf
 add-len c =
     let l = c .before .before .before .before .before .loop in
     let a = c .before .before .before .before .before .before .before .before .args in
@@ -33,7 +36,7 @@ add-len c =
     let run = c .before .before .copy-run in
     let next = run .last .1 .0 in
     let k = run .result in
-    let g = held-run crcOf s (a .body .now) (a .len0) (a .i0) (l .body) (l .len) (l .i) (l .inv) next k (run .ensures .0) (run .ensures .1) in
+    let g = held-run crcOf freshOf s (a .body .now) (a .len0) (a .i0) (l .body) (l .len) (l .i) (l .inv) limit-full next k (run .ensures .0) (run .ensures .1) in
     omega (arith, g .ahead .within)
 
 add-i : tie.Need-add-i Inv-loop μ-loop
@@ -44,8 +47,8 @@ add-i c =
     let run = c .before .before .copy-run in
     let next = run .last .1 .0 in
     let k = run .result in
-    let g = held-run crcOf s (a .body .now) (a .len0) (a .i0) (l .body) (l .len) (l .i) (l .inv) next k (run .ensures .0) (run .ensures .1) in
-    omega (arith, g .ahead .placed)
+    let g = held-run crcOf freshOf s (a .body .now) (a .len0) (a .i0) (l .body) (l .len) (l .i) (l .inv) limit-full next k (run .ensures .0) (run .ensures .1) in
+    omega (arith, g .ahead .inside)
 
 sub-if1 : tie.Need-sub-if1 Inv-loop μ-loop
 sub-if1 c =
@@ -55,8 +58,8 @@ sub-if1 c =
     let run = c .before .before .copy-run in
     let next = run .last .1 .0 in
     let k = run .result in
-    let g = held-run crcOf s (a .body .now) (a .len0) (a .i0) (l .body) (l .len) (l .i) (l .inv) next k (run .ensures .0) (run .ensures .1) in
-    g .ahead .placed
+    let g = held-run crcOf freshOf s (a .body .now) (a .len0) (a .i0) (l .body) (l .len) (l .i) (l .inv) limit-full next k (run .ensures .0) (run .ensures .1) in
+    g .ahead .inside
 
 shared-slice-read-if2 : tie.Need-shared-slice-read-if2 Inv-loop μ-loop
 shared-slice-read-if2 c =
@@ -66,8 +69,8 @@ shared-slice-read-if2 c =
     let run = c .before .before .before .before .copy-run in
     let next = run .last .1 .0 in
     let k = run .result in
-    let g = held-run crcOf s (a .body .now) (a .len0) (a .i0) (l .body) (l .len) (l .i) (l .inv) next k (run .ensures .0) (run .ensures .1) in
-    omega (arith, g .ahead .placed)
+    let g = held-run crcOf freshOf s (a .body .now) (a .len0) (a .i0) (l .body) (l .len) (l .i) (l .inv) limit-full next k (run .ensures .0) (run .ensures .1) in
+    omega (arith, g .ahead .inside)
 
 add-unescaped-byte : tie.Need-add-unescaped-byte Inv-loop μ-loop
 add-unescaped-byte c =
@@ -77,8 +80,8 @@ add-unescaped-byte c =
     let run = c .before .before .before .before .before .before .copy-run in
     let next = run .last .1 .0 in
     let k = run .result in
-    let g = held-run crcOf s (a .body .now) (a .len0) (a .i0) (l .body) (l .len) (l .i) (l .inv) next k (run .ensures .0) (run .ensures .1) in
-    omega (arith, g .ahead .placed)
+    let g = held-run crcOf freshOf s (a .body .now) (a .len0) (a .i0) (l .body) (l .len) (l .i) (l .inv) limit-full next k (run .ensures .0) (run .ensures .1) in
+    omega (arith, g .ahead .inside)
 
 shared-slice-read-unescaped-byte : tie.Need-shared-slice-read-unescaped-byte Inv-loop μ-loop
 shared-slice-read-unescaped-byte c =
@@ -88,8 +91,8 @@ shared-slice-read-unescaped-byte c =
     let run = c .before .before .before .before .before .before .before .copy-run in
     let next = run .last .1 .0 in
     let k = run .result in
-    let g = held-run crcOf s (a .body .now) (a .len0) (a .i0) (l .body) (l .len) (l .i) (l .inv) next k (run .ensures .0) (run .ensures .1) in
-    omega (arith, g .ahead .placed)
+    let g = held-run crcOf freshOf s (a .body .now) (a .len0) (a .i0) (l .body) (l .len) (l .i) (l .inv) limit-full next k (run .ensures .0) (run .ensures .1) in
+    omega (arith, g .ahead .inside)
 
 unescaped-byte-requires : tie.Need-unescaped-byte-requires Inv-loop μ-loop
 unescaped-byte-requires c κs = search needs
@@ -105,7 +108,7 @@ slice-write-body c =
     let run = c .before .before .before .before .before .before .before .before .before .before .before .copy-run in
     let next = run .last .1 .0 in
     let k = run .result in
-    let g = held-run crcOf s (a .body .now) (a .len0) (a .i0) (l .body) (l .len) (l .i) (l .inv) next k (run .ensures .0) (run .ensures .1) in
+    let g = held-run crcOf freshOf s (a .body .now) (a .len0) (a .i0) (l .body) (l .len) (l .i) (l .inv) limit-full next k (run .ensures .0) (run .ensures .1) in
     omega (arith, g .sized)
 
 add-len-2 : tie.Need-add-len-2 Inv-loop μ-loop
@@ -116,7 +119,7 @@ add-len-2 c =
     let run = c .before .before .before .before .before .before .before .before .before .before .before .copy-run in
     let next = run .last .1 .0 in
     let k = run .result in
-    let g = held-run crcOf s (a .body .now) (a .len0) (a .i0) (l .body) (l .len) (l .i) (l .inv) next k (run .ensures .0) (run .ensures .1) in
+    let g = held-run crcOf freshOf s (a .body .now) (a .len0) (a .i0) (l .body) (l .len) (l .i) (l .inv) limit-full next k (run .ensures .0) (run .ensures .1) in
     omega arith
 
 add-i-2 : tie.Need-add-i-2 Inv-loop μ-loop
@@ -127,8 +130,8 @@ add-i-2 c =
     let run = c .before .before .before .before .before .before .before .before .before .before .before .copy-run in
     let next = run .last .1 .0 in
     let k = run .result in
-    let g = held-run crcOf s (a .body .now) (a .len0) (a .i0) (l .body) (l .len) (l .i) (l .inv) next k (run .ensures .0) (run .ensures .1) in
-    omega (arith, g .ahead .placed)
+    let g = held-run crcOf freshOf s (a .body .now) (a .len0) (a .i0) (l .body) (l .len) (l .i) (l .inv) limit-full next k (run .ensures .0) (run .ensures .1) in
+    omega (arith, g .ahead .inside)
 
 loop-less : tie.Need-loop-less Inv-loop μ-loop
 loop-less c =
@@ -138,10 +141,11 @@ loop-less c =
     let run = c .before .before .before .before .before .before .before .before .before .before .before .copy-run in
     let next = run .last .1 .0 in
     let k = run .result in
-    let g = held-run crcOf s (a .body .now) (a .len0) (a .i0) (l .body) (l .len) (l .i) (l .inv) next k (run .ensures .0) (run .ensures .1) in
-    omega (arith, g .ahead .placed)
+    let g = held-run crcOf freshOf s (a .body .now) (a .len0) (a .i0) (l .body) (l .len) (l .i) (l .inv) limit-full next k (run .ensures .0) (run .ensures .1) in
+    omega (arith, g .ahead .inside)
 
 loop-again : tie.Need-loop-again Inv-loop μ-loop
+unfolding rulesOf
 loop-again c =
     let l = c .before .before .before .before .before .before .before .before .before .before .before .before .before .before .loop in
     let a = c .before .before .before .before .before .before .before .before .before .before .before .before .before .before .before .before .before .args in
@@ -149,9 +153,9 @@ loop-again c =
     let run = c .before .before .before .before .before .before .before .before .before .before .before .copy-run in
     let next = run .last .1 .0 in
     let k = run .result in
-    let g = held-run crcOf s (a .body .now) (a .len0) (a .i0) (l .body) (l .len) (l .i) (l .inv) next k (run .ensures .0) (run .ensures .1) in
+    let g = held-run crcOf freshOf s (a .body .now) (a .len0) (a .i0) (l .body) (l .len) (l .i) (l .inv) limit-full next k (run .ensures .0) (run .ensures .1) in
     let u = c .before .before .before .unescaped-byte in
-    held-escape crcOf s (a .body .now) (a .len0) (a .i0) next (l .len + k) (l .i + k) g _ (omega (arith, g .ahead .placed)) (omega arith) (c .before .before .before .before .before .before .if2 .left) (sym (escape-push (u .result) (l .len + k) (getD s (l .i + k + 1) 0) (u .ensures) _ (c .before .d .given .1) (omega arith)))
+    held-escape crcOf freshOf s (a .body .now) (a .len0) (a .i0) next (l .len + k) (l .i + k) g _ (omega (arith, g .ahead .inside)) (omega arith) (c .before .before .before .before .before .before .if2 .left) (sym (escape-push (rulesOf freshOf) (u .result) (l .len + k) (getD s (l .i + k + 1) 0) (u .ensures) _ (c .before .d .given .1) (omega arith)))
 
 enum-told : tie.Need-enum-told Inv-loop μ-loop
 enum-told c = search needs
@@ -173,7 +177,7 @@ returns-2 c =
     let run = c .before .before .before .copy-run in
     let next = run .last .1 .0 in
     let k = run .result in
-    let g = held-run crcOf s (a .body .now) (a .len0) (a .i0) (l .body) (l .len) (l .i) (l .inv) next k (run .ensures .0) (run .ensures .1) in
+    let g = held-run crcOf freshOf s (a .body .now) (a .len0) (a .i0) (l .body) (l .len) (l .i) (l .inv) limit-full next k (run .ensures .0) (run .ensures .1) in
     g .ahead
 
 same-length-3 : tie.Need-same-length-3 Inv-loop μ-loop
@@ -187,7 +191,7 @@ returns-3 c =
     let run = c .before .before .before .before .before .copy-run in
     let next = run .last .1 .0 in
     let k = run .result in
-    let g = held-run crcOf s (a .body .now) (a .len0) (a .i0) (l .body) (l .len) (l .i) (l .inv) next k (run .ensures .0) (run .ensures .1) in
+    let g = held-run crcOf freshOf s (a .body .now) (a .len0) (a .i0) (l .body) (l .len) (l .i) (l .inv) limit-full next k (run .ensures .0) (run .ensures .1) in
     g .ahead
 
 same-length-4 : tie.Need-same-length-4 Inv-loop μ-loop
@@ -201,7 +205,7 @@ returns-4 c =
     let run = c .before .before .before .before .before .before .copy-run in
     let next = run .last .1 .0 in
     let k = run .result in
-    let g = held-run crcOf s (a .body .now) (a .len0) (a .i0) (l .body) (l .len) (l .i) (l .inv) next k (run .ensures .0) (run .ensures .1) in
+    let g = held-run crcOf freshOf s (a .body .now) (a .len0) (a .i0) (l .body) (l .len) (l .i) (l .inv) limit-full next k (run .ensures .0) (run .ensures .1) in
     g .ahead
 
 same-length-5 : tie.Need-same-length-5 Inv-loop μ-loop
@@ -215,7 +219,7 @@ returns-5 c =
     let run = c .before .before .before .before .before .before .before .before .before .before .copy-run in
     let next = run .last .1 .0 in
     let k = run .result in
-    let g = held-run crcOf s (a .body .now) (a .len0) (a .i0) (l .body) (l .len) (l .i) (l .inv) next k (run .ensures .0) (run .ensures .1) in
+    let g = held-run crcOf freshOf s (a .body .now) (a .len0) (a .i0) (l .body) (l .len) (l .i) (l .inv) limit-full next k (run .ensures .0) (run .ensures .1) in
     g .ahead
 
 pub units-spec : {M : Type 1} → statement M

@@ -36,14 +36,14 @@ add-reached c =
     let st = c .before .before .before .before .before .start-of in
     let f = c .before .feed-in in
     let u : take (length s - st .result) (drop (st .result) s) ≡ drop (a .at) s = rw (st .ensures .0) (part-from s (a .at)) in
-    let e : f .result ≡ fedInOf (feedOf crcOf (receiverAt (a .place .now) (a .body .now)) (drop (a .at) s)) = rw u at (f .ensures .0) in
-    omega (arith, starts crcOf (receiverAt (a .place .now) (a .body .now)) s (a .at), st .ensures .0, ap (λ (x : FedIn). x .taken) e)
+    let e : f .result ≡ fedInOf (feedOf crcOf (receiverAt (a .numbers .now) (a .body .now)) (drop (a .at) s)) = rw u at (f .ensures .0) in
+    omega (arith, starts crcOf (receiverAt (a .numbers .now) (a .body .now)) s (a .at), st .ensures .0, ap (λ (x : FedIn). x .taken) e)
 
 returns : tie.Need-returns
 returns c =
     let a = c .before .before .before .before .before .before .before .args in
     let s = a .s .now in
-    let r = receiverAt (a .place .now) (a .body .now) in
+    let r = receiverAt (a .numbers .now) (a .body .now) in
     let st = c .before .before .before .before .before .start-of in
     let f = c .before .feed-in in
     let u : take (length s - st .result) (drop (st .result) s) ≡ drop (a .at) s = rw (st .ensures .0) (part-from s (a .at)) in

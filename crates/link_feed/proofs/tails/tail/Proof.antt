@@ -6,63 +6,64 @@ use native.Mathlib.Omega.{arith}
 use lib.ListN.{length}
 use borrow.Author.Needs.{needs}
 use Rattle.crc.specs.Crc.{crcOf}
+use Rattle.link_receive.specs.Step.{freshOf}
 use Rattle.link_feed.specs.Advance.{Skipped}
-use Rattle.link_feed.proofs.Skips.{skipped-none, tail-placed, tail-half, tail-whole, tail-past}
+use Rattle.link_feed.proofs.Skips.{skipped-none, tail-inside, tail-half, tail-whole, tail-past}
 use Rattle.link_feed.proofs.tails.tail.Statement.{statement}
 use Rattle.link_feed.proofs.tails.tail.Tie as tie
 
 abbrev Inv-loop : tie.InvT-loop
-Inv-loop s i0 i₀ i = Skipped crcOf s i0 i
+Inv-loop s i0 i₀ i = Skipped crcOf freshOf s i0 i
 
 abbrev μ-loop : tie.MeasureT-loop
 μ-loop s i0 i₀ i = length s - i
 
 loop-holds : tie.Need-loop-holds Inv-loop μ-loop
-loop-holds c = skipped-none crcOf _ _ (search needs)
+loop-holds c = skipped-none crcOf _ _ _ (search needs)
 
 run-requires : tie.Need-run-requires Inv-loop μ-loop
 run-requires c κs = search needs
 
 add-j : tie.Need-add-j Inv-loop μ-loop
-add-j c = let l = c .before .before .loop in omega (arith, tail-placed crcOf _ _ (l .i) (l .inv) (c .run .result) (c .run .ensures))
+add-j c = let l = c .before .before .loop in omega (arith, tail-inside crcOf _ _ _ (l .i) (l .inv) (c .run .result) (c .run .ensures))
 
 half-requires : tie.Need-half-requires Inv-loop μ-loop
-half-requires c κs = let l = c .before .before .loop in (omega arith, tail-placed crcOf _ _ (l .i) (l .inv) (c .run .result) (c .run .ensures))
+half-requires c κs = let l = c .before .before .loop in (omega arith, tail-inside crcOf _ _ _ (l .i) (l .inv) (c .run .result) (c .run .ensures))
 
 sub-result : tie.Need-sub-result Inv-loop μ-loop
 sub-result c =
     let l = c .before .before .before .before .loop in
     let run = c .before .before .run in
-    omega (arith, tail-half crcOf _ _ (l .i) (l .inv) (run .result) (run .ensures) (sym (c .before .half .ensures) ∙ c .if1 .taken) .0)
+    omega (arith, tail-half crcOf _ _ _ (l .i) (l .inv) (run .result) (run .ensures) (sym (c .before .half .ensures) ∙ c .if1 .taken) .0)
 
 returns : tie.Need-returns Inv-loop μ-loop
 returns c =
     let l = c .before .before .before .before .loop in
     let run = c .before .before .run in
-    tail-half crcOf _ _ (l .i) (l .inv) (run .result) (run .ensures) (sym (c .before .half .ensures) ∙ c .if1 .taken) .1
+    tail-half crcOf _ _ _ (l .i) (l .inv) (run .result) (run .ensures) (sym (c .before .half .ensures) ∙ c .if1 .taken) .1
 
 returns-2 : tie.Need-returns-2 Inv-loop μ-loop
 returns-2 c =
     let l = c .before .before .before .before .before .loop in
     let run = c .before .before .before .run in
-    tail-whole crcOf _ _ (l .i) (l .inv) (run .result) (run .ensures) (sym (c .before .before .half .ensures) ∙ c .before .if1 .left)
+    tail-whole crcOf _ _ _ (l .i) (l .inv) (run .result) (run .ensures) (sym (c .before .before .half .ensures) ∙ c .before .if1 .left)
 
 add-i : tie.Need-add-i Inv-loop μ-loop
 add-i c =
     let l = c .before .before .before .before .before .loop in
     let run = c .before .before .before .run in
-    omega (arith, tail-placed crcOf _ _ (l .i) (l .inv) (run .result) (run .ensures), c .if2 .left)
+    omega (arith, tail-inside crcOf _ _ _ (l .i) (l .inv) (run .result) (run .ensures), c .if2 .left)
 
 -- the place behind the byte that ends the run
-past : (c : tie.Else2 Inv-loop μ-loop) → let a = c .before .before .before .before .before .before .before .args in let l = c .before .before .before .before .before .loop in Skipped crcOf (a .s .now) (a .i0) (l .i + c .before .before .before .run .result + 1)
+past : (c : tie.Else2 Inv-loop μ-loop) → let a = c .before .before .before .before .before .before .before .args in let l = c .before .before .before .before .before .loop in Skipped crcOf freshOf (a .s .now) (a .i0) (l .i + c .before .before .before .run .result + 1)
 past c =
     let l = c .before .before .before .before .before .loop in
     let run = c .before .before .before .run in
-    let p = tail-placed crcOf _ _ (l .i) (l .inv) (run .result) (run .ensures) in
-    tail-past crcOf _ _ (l .i) (run .result) (l .inv) (run .ensures) (sym (c .before .before .half .ensures) ∙ c .before .if1 .left) (omega (arith, p, c .if2 .left))
+    let p = tail-inside crcOf _ _ _ (l .i) (l .inv) (run .result) (run .ensures) in
+    tail-past crcOf _ _ _ (l .i) (run .result) (l .inv) (run .ensures) (sym (c .before .before .half .ensures) ∙ c .before .if1 .left) (omega (arith, p, c .if2 .left))
 
 loop-less : tie.Need-loop-less Inv-loop μ-loop
-loop-less c = omega (arith, past c .placed)
+loop-less c = omega (arith, past c .inside)
 
 loop-again : tie.Need-loop-again Inv-loop μ-loop
 loop-again c = past c

@@ -1,4 +1,4 @@
--- `link_receive::Tallies::raised` raises the tally of its kind, wrapping, and no other. Assumes nothing.
+-- `link_receive::Tallies::raised` raises the tally of its counter, wrapping, and no other. Assumes nothing.
 use borrow.Author.Needs.{needs}
 use Rattle.link_receive.proofs.Tallies.raised.Statement.{statement}
 use Rattle.link_receive.proofs.Tallies.raised.Tie as tie

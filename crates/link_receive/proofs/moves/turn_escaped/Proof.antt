@@ -20,13 +20,13 @@ enum-told : tie.Need-enum-told
 enum-told c = search needs
 
 returns-2 : tie.Need-returns-2
-returns-2 c = escape-push _ _ _ (c .before .before .before .before .unescaped-byte .ensures) _ (c .before .before .d .given .1) (c .if2 .taken)
+returns-2 c = escape-push _ _ _ _ (c .before .before .before .before .unescaped-byte .ensures) _ (c .before .before .d .given .1) (c .if2 .taken)
 
 returns-3 : tie.Need-returns-3
-returns-3 c = escape-overlong _ _ _ (c .before .before .before .before .unescaped-byte .ensures) _ (c .before .before .d .given .1) (c .if2 .left)
+returns-3 c = escape-overlong _ _ _ _ (c .before .before .before .before .unescaped-byte .ensures) _ (c .before .before .d .given .1) (c .if2 .left)
 
 returns-4 : tie.Need-returns-4
-returns-4 c = escape-break _ _ _ (c .before .before .unescaped-byte .ensures) (c .enum-told .given .1) (c .before .before .before .if1 .left)
+returns-4 c = escape-break _ _ _ _ (c .before .before .unescaped-byte .ensures) (c .enum-told .given .1) (c .before .before .before .if1 .left)
 
 pub turn-escaped-spec : {M : Type 1} → statement M
 turn-escaped-spec =

@@ -1,4 +1,4 @@
--- `SlotCounter::epoch` sees the epoch's place, times 0x4000, in the masked bits. Assumes nothing.
+-- `SlotCounter::epoch` sees the epoch's index, times 0x4000, in the masked bits. Assumes nothing.
 use borrow.Author.Needs.{needs}
 use Rattle.slot_counter.specs.Slots.{epochAt}
 use Rattle.slot_counter.proofs.Laws.{epoch-found, epoch-last}

@@ -6,8 +6,8 @@ use borrow.Author.Needs.{needs}
 use Rattle.slot_counter.proofs.SlotEpoch.add.Statement.{statement}
 use Rattle.slot_counter.proofs.SlotEpoch.add.Tie as tie
 
-place-requires : tie.Need-place-requires
-place-requires c κs = search needs
+index-requires : tie.Need-index-requires
+index-requires c κs = search needs
 
 wrapping-add-u8-requires : tie.Need-wrapping-add-u8-requires
 wrapping-add-u8-requires c κs = search needs
@@ -17,7 +17,7 @@ epoch-at-requires c κs = search needs
 
 returns : tie.Need-returns
 unfolding addedOf
-returns c = c .epoch-at .ensures ∙ rw (c .before .wrapping-add-u8 .ensures, c .before .before .place .ensures, around-four)
+returns c = c .epoch-at .ensures ∙ rw (c .before .wrapping-add-u8 .ensures, c .before .before .index .ensures, around-four)
 
 pub add-spec : {M : Type 1} → statement M
-add-spec = tie.close (tie.spec place-requires wrapping-add-u8-requires epoch-at-requires returns)
+add-spec = tie.close (tie.spec index-requires wrapping-add-u8-requires epoch-at-requires returns)

@@ -1,31 +1,21 @@
--- `Receiver::reset_counters` is right: the counters alone are changed. Assumes nothing.
-use mathlib.Core.Path.{sym, _∙_}
-use Rattle.transport_receiver.specs.Lent.{resetIn}
-use Rattle.transport_receiver.proofs.Refines.{reset-refused, reset-done}
+-- `Receiver::reset_counters` is right: it is `reset_in` over copies of the fields, and that is 01's reset. Assumes nothing.
+use mathlib.Core.Path.{_≡_, ap, _∙_}
+use Rattle.transport_receiver.specs.Handed.{toldReset}
+use Rattle.transport_receiver.specs.Lent.{recounted, resetIn}
+use Rattle.transport_receiver.specs.declared.WasReset.{WasReset}
+use Rattle.transport_receiver.proofs.Refines.{reset-refines}
 use borrow.Author.Needs.{needs}
 use Rattle.transport_receiver.proofs.Receiver.reset_counters.Statement.{statement}
 use Rattle.transport_receiver.proofs.Receiver.reset_counters.Tie as tie
 
-slice-aggregate-over : tie.Need-slice-aggregate-over
-slice-aggregate-over c = search needs
-
-slice-aggregate-over-2 : tie.Need-slice-aggregate-over-2
-slice-aggregate-over-2 c = search needs
-
-over-requires : tie.Need-over-requires
-over-requires c κs = search needs
+reset-in-requires : tie.Need-reset-in-requires
+reset-in-requires c κs = search needs
 
 returns : tie.Need-returns
 unfolding resetIn
 returns c =
-    (rw (← c .before .over .ensures, c .if1 .taken), reset-refused (c .before .before .before .before .before .before .args .self) (sym (c .before .over .ensures) ∙ c .if1 .taken))
-
-returns-2 : tie.Need-returns-2
-unfolding resetIn
-returns-2 c =
-    (rw (← c .before .over .ensures, c .if1 .left), reset-done (c .before .before .before .before .before .before .args .self) (sym (c .before .over .ensures) ∙ c .if1 .left))
+    let e : _≡_ {A = WasReset} (record { receiver = recounted (c .before .before .before .before .before .before .before .args .self) (c .reset-in .last .1 .1 .0); over = c .reset-in .result }) (resetIn (c .before .before .before .before .before .before .before .args .self)) = rw (c .reset-in .ensures .0, c .reset-in .ensures .1) in
+    (e, ap toldReset e ∙ reset-refines (c .before .before .before .before .before .before .before .args .self))
 
 pub reset-counters-spec : {M : Type 1} → statement M
-reset-counters-spec =
-    tie.close
-    (tie.spec slice-aggregate-over slice-aggregate-over-2 over-requires returns returns-2)
+reset-counters-spec = tie.close (tie.spec reset-in-requires returns)

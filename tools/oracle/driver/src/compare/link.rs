@@ -1,6 +1,6 @@
 //! The link receiver: ledger, frames, state and body after a stream, in any cuts.
 use super::Run;
-use crate::oracle::{hear, Heard, Watched};
+use crate::oracle::{escaping, hear, Heard, Watched};
 use crate::rng::Rng;
 use crate::doors::link as doors;
 use crate::make;
@@ -249,26 +249,43 @@ pub fn captures(run: &mut Run) {
     run.done(name, count + 1);
 }
 
-/// Bytes that lead a fresh receiver to each state outside an open frame.
-const OUTSIDE: [(u64, &[u8]); 3] = [(0, &[]), (1, &[0x41]), (2, &[0x7e])];
+/// Bytes that lead a fresh receiver to a made-up state: to its number, and inside a frame to its units.
+fn leading(r: &doors::Receiver) -> Vec<u8> {
+    let inside = || {
+        let mut bytes = vec![0x7e, 0x07];
+        escaping::escape(&r.units(), &mut bytes);
+        bytes
+    };
+    let overlong = || [&[0x7e, 0x07][..], &[0x41; 257]].concat();
+    match r.place[0] {
+        0 => vec![],
+        1 => vec![0x41],
+        2 => vec![0x7e],
+        3 => inside(),
+        4 => [inside(), vec![0x7e]].concat(),
+        5 => overlong(),
+        _ => [overlong(), vec![0x7e]].concat(),
+    }
+}
 
 pub fn made_up(run: &mut Run) {
-    let name = "receiver: made-up states (a stale body outside a frame, tallies about to wrap)";
+    let name = "receiver: made-up states of every kind (a stale body outside a frame, tallies about to wrap), fed and by single steps";
     let mut rng = run.part("made up");
     let count = run.times(15_000);
     for _ in 0..count {
-        let (state, prefix) = rng.pick(&OUTSIDE);
+        let state = rng.below(7) as u64;
         let stream = make::stream(&mut rng);
+        let mut r = made(&mut rng, state);
         let mut rust = Watched::new();
-        for byte in prefix {
-            rust.push(*byte);
+        for byte in leading(&r) {
+            rust.push(byte);
         }
         rust.reset();
         for byte in &stream {
             rust.push(*byte);
         }
-        let mut r = made(&mut rng, state);
         let before = r.place;
+        let mut single = r.clone();
         let mut frames = Vec::new();
         let mut at = 0;
         while at < stream.len() {
@@ -285,8 +302,17 @@ pub fn made_up(run: &mut Run) {
         if (heard.state == 3 || heard.state == 4) && heard.body != r.units() {
             run.differ(name, &format!("from {before:?} on {}: another body", crate::show::short(&stream)));
         }
+        let mut stepped = Vec::new();
+        for byte in &stream {
+            if single.push_u8(*byte).expect("a length within the limit") == 1 {
+                stepped.push(single.frame());
+            }
+        }
+        if stepped != frames || single.place != r.place || single.body != r.body {
+            run.differ(name, &format!("from {before:?} on {}: by steps {:?}, fed {:?}", crate::show::short(&stream), single.place, r.place));
+        }
     }
-    run.done(name, count as u64);
+    run.done(name, 2 * count as u64);
 
     let name = "receiver: a length over 256 is refused by 12 and changes nothing (step, feed, reset)";
     let mut n = 0;
