@@ -1,8 +1,9 @@
 // Gateway link layer addresses (link/address.rs).
 ghost use mathlib.Core.Path.{_≡_};
+ghost use Prim.Native.Nat.{_+_, _≤_};
 ghost use lib.ListN.{getD};
 ghost use Rattle.laws.specs.Bytes.{of16};
-ghost use Rattle.address.specs.Address.{addressOf};
+ghost use Rattle.address.specs.Address.{gatewayOf, numberOf, addressOf};
 ghost use Rattle.address.specs.Handed.{handedID, handedNumber, handedBytes, idHanded, numberHanded, bytesHanded};
 
 const DIRECTION_BIT: u16 = 0x8000;
@@ -59,6 +60,26 @@ fn number_of(hi: u8, lo: u8) -> u16
     (hi as u16) * 256 + (lo as u16)
 }
 
+// The number of the gateway that an address names, whichever its direction.
+fn id_of(a: Address) -> u16
+    ensures { λ r. ⌜ r ≡ gatewayOf a ⌝ }
+{
+    match a {
+        Address::From(id) => id.0,
+        Address::To(id) => id.0,
+    }
+}
+
+// The direction bit of an address, if it is set.
+fn direction_of(a: Address) -> u16
+    ensures { λ r. ⌜ (r + gatewayOf a ≡ numberOf a) × (r ≤ 0x8000) ⌝ }
+{
+    match a {
+        Address::From(_) => DIRECTION_BIT,
+        Address::To(_) => 0,
+    }
+}
+
 impl Address {
     // The address that 16 bits say.
     pub fn from_u16(number: u16) -> Address
@@ -74,22 +95,11 @@ impl Address {
     pub fn to_u16(self) -> Numbered
         ensures { λ r. ⌜ handedNumber r ≡ numberHanded self ⌝ }
     {
-        match self {
-            Address::From(id) => {
-                let number = id.0;
-                if ID_LIMIT < number {
-                    return Numbered::Invalid;
-                }
-                Numbered::Number(DIRECTION_BIT + number)
-            }
-            Address::To(id) => {
-                let number = id.0;
-                if ID_LIMIT < number {
-                    return Numbered::Invalid;
-                }
-                Numbered::Number(number)
-            }
+        let id = id_of(self);
+        if ID_LIMIT < id {
+            return Numbered::Invalid;
         }
+        Numbered::Number(direction_of(self) + id)
     }
 
     // The address that two bytes say, the higher first.

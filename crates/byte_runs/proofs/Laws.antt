@@ -166,3 +166,9 @@ module _ (p : ℕ → Bool) (s : List ℕ) (i n r : ℕ) (h : i ≤ length s) (e
   copy-all k u =
       let v : k < n = lt-of-lt-of-le u copy-room in
       rw (getD-take, getD-drop) at (lead-all p (take n (drop i s)) k (subst (λ (m : ℕ). k < m) e u))
+
+  pub copy-stops : r < n → i + r < length s → p (getD s (i + r) 0) ≡ false
+  copy-stops u v =
+      let w : lead p (take n (drop i s)) < length (take n (drop i s)) = simp (length-take, length-drop) (omega arith) in
+      let x : lead p (take n (drop i s)) < n = omega arith in
+      subst (λ (m : ℕ). p (getD s (i + m) 0) ≡ false) (sym e) (rw (getD-take, getD-drop) at (lead-stops p (take n (drop i s)) w))

@@ -1,17 +1,16 @@
 -- What marks tell: which bytes pass, how many before the first that fails, and how those are laid. Assumes nothing.
 use mathlib.Core.Path.{_≡_, refl, sym, ap, ap₂, _∙_, subst}
 use mathlib.Core.Bool.{Bool, true, false, cond, not}
-use mathlib.Core.List.{List, [], _∷_, _++_, map, append-assoc}
+use mathlib.Core.List.{List, [], _∷_, _++_, append-assoc}
 use Prim.Native.Nat.{ℕ, zero, suc, _+_, _-_, _*_, _/_, _%_, _^_, _≤_, _<_}
-use native.Mathlib.Nat.{not-suc-le-zero, zero-lt-suc, le-of-suc-le-suc, mod-eq-of-lt}
+use native.Mathlib.Nat.{not-suc-le-zero, zero-lt-suc, le-of-suc-le-suc, zero-add, suc-add, mul-one, mod-eq-of-lt}
 use native.Mathlib.Omega.{arith}
-use borrow.Author.Tests.{eqb-true}
 use borrow.Rule.Slice.PartMut.{putMid, midOf}
-use lib.Dec.{eqb, T}
-use lib.Bits.{bitAnd, bitOr, bitXor, and-zero-r, and-mask, xor-zero-l, xor-zero-r, xor-self, and-block, xor-block, xor-lt, and-lt}
+use lib.Bits.{bitAnd, bitOr, bitXor, shifted-half, shifted-even, and-zero-r, and-mask, xor-zero-l, xor-zero-r, xor-self, and-block, xor-block, xor-lt, and-lt}
+use lib.Count.{trailingZeros, under}
 use lib.ListN.{length, getD, take, drop, replicate, length-take, length-drop, length-append}
 use lib.Seq.{paste, take-take, take-all, drop-drop, length-take-le, getD-take, getD-drop}
-use Rattle.laws.specs.Bytes.{Bytes, laidOver}
+use Rattle.laws.specs.Bytes.{Bytes}
 use Rattle.laws.proofs.Bits.{xor-assoc}
 use Rattle.laws.proofs.Bytes.{bytes-take, bytes-drop, bytes-append}
 use Rattle.laws.proofs.Lay.{laidOver-take}
@@ -19,8 +18,8 @@ use Rattle.words.specs.Words.{leOf, digits, putOf, numberOf}
 use Rattle.words.proofs.Laws.{digits-of, put-is, number-is}
 use Rattle.byte_runs.specs.Runs.{fenced, isOf, lead, All, laid}
 use Rattle.byte_runs.specs.declared.Sort.the-variants as sort
-use Rattle.byte_runs.specs.Marks.{mark, marked, Eight, Marks, Below, Filled, Blended}
-use Rattle.byte_runs.proofs.Laws.{laid-paste, copy-all}
+use Rattle.byte_runs.specs.Marks.{mark, marked, Eight, Marks, Below, First, Blended}
+use Rattle.byte_runs.proofs.Laws.{laid-paste, copy-all, copy-stops}
 use Rattle.byte_runs.proofs.Bytewise.{is-all, is-or, is-xor, is-same, below-is, gives-bytes}
 
 -- the mark of a byte, by whether it passes
@@ -74,12 +73,47 @@ below-first z h p bs e =
     up : (l : ℕ) → (l * 256 + 255) / 256 ≡ l
     up l = omega arith
 
--- `filled` cites this
-abbrev counted : ℕ → ℕ
-counted m = let a = bitAnd m 0x0101010101010101 in let b = a + a / 4294967296 in let c = b + b / 65536 in (c + c / 256) % 16
+-- the zeros below a number that is shifted, and below an odd one
+trailing-shift : (j k a : ℕ) → trailingZeros (j + k) (a * 2 ^ j) ≡ j + trailingZeros k a
+unfolding trailingZeros
+trailing-shift zero k a = ap₂ trailingZeros (zero-add k) (mul-one a) ∙ sym (zero-add (trailingZeros k a))
+trailing-shift (suc j) k a =
+    ap (λ (x : ℕ). trailingZeros x (a * 2 ^ suc j)) (suc-add j k)
+    ∙ ap₂ (λ (x y : ℕ). under x (trailingZeros (j + k) y)) (shifted-even a j) (shifted-half a j)
+    ∙ ap suc (trailing-shift j k a)
+    ∙ sym (suc-add j (trailingZeros k a))
 
-pub filled-counted : (m : ℕ) → Filled m (counted m)
-filled-counted m k h e = ap counted e ∙ below-is 8 (λ n. counted (leOf (replicate n 0xff))) (λ n. n) tt k h
+trailing-odd : (k a : ℕ) → trailingZeros (suc k) (a * 2 + 1) ≡ 0
+unfolding trailingZeros
+trailing-odd k a = ap (λ (x : ℕ). under x (trailingZeros k ((a * 2 + 1) / 2))) (odd a)
+  where
+    odd : (a : ℕ) → (a * 2 + 1) % 2 ≡ 1
+    odd a = omega arith
+
+-- .. and below the first mark: seven in its byte, and eight in each byte before
+trailing-cons : (t : Bool) (m l k : ℕ) → 1 ≤ m * 256 + of t → (1 ≤ m → trailingZeros k m ≡ 8 * l + 7) → trailingZeros (8 + k) (m * 256 + of t) ≡ 8 * cond t (suc l) 0 + 7
+trailing-cons true m l k h f =
+    let e : trailingZeros k m ≡ 8 * l + 7 = f (omega arith) in
+    let q : m * 256 + 0 ≡ m * 2 ^ 8 = omega arith in
+    ap (trailingZeros (8 + k)) q ∙ trailing-shift 8 k m ∙ (let g : 8 + trailingZeros k m ≡ 8 * suc l + 7 = omega arith in g)
+trailing-cons false m l k h f =
+    let q : m * 256 + 128 ≡ (m * 2 + 1) * 2 ^ 7 = omega arith in
+    let w : 8 + k ≡ 7 + suc k = omega arith in
+    ap₂ trailingZeros w q ∙ trailing-shift 7 (suc k) (m * 2 + 1) ∙ ap (λ (x : ℕ). 7 + x) (trailing-odd k m)
+
+trailing-marked : (p : ℕ → Bool) (bs : List ℕ) (k w : ℕ) → w ≡ 8 * length bs + k → 1 ≤ marked p bs → trailingZeros w (marked p bs) ≡ 8 * lead p bs + 7
+unfolding lead
+trailing-marked p [] k w e h = absurd (not-suc-le-zero h)
+trailing-marked p (b ∷ bs) k w e h =
+    let n = 8 * length bs + k in
+    let q : w ≡ 8 + n = omega arith in
+    ap (λ (x : ℕ). trailingZeros x (marked p (b ∷ bs))) q ∙ trailing-cons (p b) (marked p bs) (lead p bs) n h (λ g. trailing-marked p bs k n refl g)
+
+-- `first` cites this
+pub trailing-first : (z : ℕ) → 1 ≤ z → First z (trailingZeros 64 z / 8)
+trailing-first z h p bs n e =
+    let q : trailingZeros 64 z ≡ 8 * lead p bs + 7 = ap (trailingZeros 64) e ∙ trailing-marked p bs 0 64 (omega arith) (subst (λ (x : ℕ). 1 ≤ x) e h) in
+    omega arith
 
 -- the low bytes of one word and the high ones of another
 blended : (b e : ℕ) → b < 256 → e < 256 → bitXor e (bitAnd (bitXor e b) 255) ≡ b
@@ -171,6 +205,13 @@ module _ (s : List ℕ) (a n w : ℕ) (h : Bytes s) (g : a + 8 ≤ length s) (en
   pub some-eight : (p : ℕ → Bool) (z : ℕ) → Marks p w z → 1 ≤ z → lead p (take 8 (drop a s)) < 8
   some-eight p z f u = omega (arith, lead-lt p (take 8 (drop a s)) (subst (λ (x : ℕ). 1 ≤ x) (f (take 8 (drop a s)) eight-of) u), eight-of .eight)
 
+  pub first-eight : (p : ℕ → Bool) (z r : ℕ) → Marks p w z → 1 ≤ z → First z r → (All p s a r) × (r < 8) × (p (getD s (a + r) 0) ≡ false)
+  first-eight p z r f u q =
+      let bs = take 8 (drop a s) in
+      let e = q p bs (eight-of .eight) (f bs eight-of) in
+      let few : r < 8 = omega (arith, some-eight p z f u, e) in
+      (copy-all p s a 8 r (omega arith) e, few, copy-stops p s a 8 r (omega arith) e few (omega arith))
+
   pub laid-eight : (d : List ℕ) (l m : ℕ) (last : List ℕ) → l + 8 ≤ length d → m ≡ 8 → last ≡ putOf (midOf l m d) w → putMid l m d last ≡ laid d l s a 8
   laid-eight d l m last hd em el =
       ap (putMid l m d) el
@@ -178,12 +219,12 @@ module _ (s : List ℕ) (a n w : ℕ) (h : Bytes s) (g : a + 8 ≤ length s) (en
       ∙ word-laid d l (take 8 (drop a s)) w hd eight-of
       ∙ paste-laid d l s a 8 hd g (omega arith)
 
-  pub laid-some : (p : ℕ → Bool) (d : List ℕ) (l z r : ℕ) (next : List ℕ) → l + 8 ≤ length d → Marks p w z → 1 ≤ z → Blended d l w z r next → (All p s a r) × (r ≤ 8) × (next ≡ laid d l s a r)
+  pub laid-some : (p : ℕ → Bool) (d : List ℕ) (l z r : ℕ) (next : List ℕ) → l + 8 ≤ length d → Marks p w z → 1 ≤ z → Blended d l w z r next → (All p s a r) × (r < 8) × (next ≡ laid d l s a r) × (p (getD s (a + r) 0) ≡ false)
   laid-some p d l z r next hd f u b =
       let bs = take 8 (drop a s) in
       let both = b p bs eight-of (f bs eight-of) in
-      let few : r ≤ 8 = omega (arith, some-eight p z f u, both .0) in
-      (copy-all p s a 8 r (omega arith) (both .0), few, both .1 ∙ paste-laid d l s a r hd g few)
+      let few : r < 8 = omega (arith, some-eight p z f u, both .0) in
+      (copy-all p s a 8 r (omega arith) (both .0), few, both .1 ∙ paste-laid d l s a r hd g (omega arith), copy-stops p s a 8 r (omega arith) (both .0) few (omega arith))
 
 -- the marks of two sorts joined: noise is neither idle nor 7e, and what stands for itself is neither fenced nor 7e
 pub marks-noise : (w x y : ℕ) → Marks (isOf sort.Raw) w x → Marks (isOf sort.Idle) w y → Marks (isOf sort.Noise) w (bitOr x (bitXor y 0x8080808080808080))

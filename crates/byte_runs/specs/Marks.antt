@@ -2,7 +2,7 @@
 use mathlib.Core.Path.{_≡_}
 use mathlib.Core.Bool.{Bool, cond}
 use mathlib.Core.List.{List, map}
-use Prim.Native.Nat.{ℕ, _+_, _<_}
+use Prim.Native.Nat.{ℕ, _+_}
 use lib.ListN.{length, replicate}
 use lib.Seq.{paste}
 use lib.Bits.{bitAnd, bitXor}
@@ -36,9 +36,9 @@ betweenOf w a b = bitAnd (bitAnd (bitAnd w 0x7f7f7f7f7f7f7f7f + a) (bitXor (bitA
 abbrev pub Below : ℕ → ℕ → Type 0
 Below z r = (p : ℕ → Bool) (bs : List ℕ) → z ≡ marked p bs → r ≡ leOf (replicate (lead p bs) 0xff)
 
--- all bits of k bytes are counted as k
-abbrev pub Filled : ℕ → ℕ → Type 0
-Filled m r = (k : ℕ) → k < 8 → m ≡ leOf (replicate k 0xff) → r ≡ k
+-- r is how many bytes stand before the first mark of z
+abbrev pub First : ℕ → ℕ → Type 0
+First z r = (p : ℕ → Bool) (bs : List ℕ) → length bs ≡ 8 → z ≡ marked p bs → r ≡ lead p bs
 
 -- the bytes of w before the first mark of z are counted, and laid to d from l on
 abbrev pub Blended : List ℕ → ℕ → ℕ → ℕ → ℕ → List ℕ → Type 0

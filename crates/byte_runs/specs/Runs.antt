@@ -1,9 +1,9 @@
 -- Runs of bytes: what they are made of, how long they are, and where they are laid. Assumes nothing.
 use mathlib.Core.Path.{_≡_}
-use mathlib.Core.Bool.{Bool, true, false, cond, not, _&&_, _||_}
+use mathlib.Core.Bool.{Bool, true, cond, not, _&&_, _||_}
 use mathlib.Core.List.{List, [], _∷_}
-use Prim.Native.Nat.{ℕ, zero, suc, _+_, _-_, _%_, _≤_, _<_}
-use lib.ListN.{length, getD, set, take, drop}
+use Prim.Native.Nat.{ℕ, zero, suc, _+_, _%_, _<_}
+use lib.ListN.{getD, set}
 use lib.Dec.{eqb, ltb}
 use Rattle.byte_runs.specs.declared.Sort.{Sort}
 use Rattle.byte_runs.specs.declared.Sort.the-variants.{Raw, Idle, Noise, Plain, Calm}
@@ -46,9 +46,3 @@ All p s i m = (k : ℕ) → k < m → p (getD s (i + k) 0) ≡ true
 abbrev pub laid : List ℕ → ℕ → List ℕ → ℕ → ℕ → List ℕ
 laid d l s i zero = d
 laid d l s i (suc m) = set (laid d l s i m) (l + m) (getD s (i + m) 0)
-
--- m bytes that meet a test, at most so many, are laid
-pub record Copied (p : ℕ → Bool) (d : List ℕ) (l : ℕ) (s : List ℕ) (i most m : ℕ) (next : List ℕ) : Type 0 where
-  pub fits : m ≤ most
-  pub all : All p s i m
-  pub bytes : next ≡ laid d l s i m

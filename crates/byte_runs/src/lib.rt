@@ -2,11 +2,13 @@
 // The receiver skips and copies such runs, and the encoder copies the bytes that stand for themselves.
 ghost use mathlib.Core.Path.{_≡_};
 ghost use mathlib.Core.Bool.{not};
-ghost use Prim.Native.Nat.{ℕ, _+_, _-_, _≤_, _<_};
+ghost use mathlib.Core.List.{[], _∷_};
+ghost use Prim.Native.Nat.{_+_, _-_, _≤_, _<_};
 ghost use lib.ListN.{length, take, drop};
 ghost use lib.Seq.{paste};
-ghost use Rattle.byte_runs.specs.Runs.{idle, fenced, isOf, lead, All, laid, Copied};
-ghost use Rattle.byte_runs.specs.Marks.{Marks, betweenOf, Below, Filled, Blended};
+ghost use Rattle.byte_runs.specs.Runs.{idle, fenced, isOf, lead};
+ghost use Rattle.byte_runs.specs.Marks.{Marks, betweenOf, Below, First, Blended};
+ghost use Rattle.byte_runs.specs.Noises.{noisesOf, noisesAt, tick, Behind, Begun, NoisyAt, NoisyBehind};
 
 // A sort of bytes: any but 7e; 00 and ff; any but 00, ff and 7e; those that stand for themselves on the wire; any but 07 and 08.
 pub enum Sort {
@@ -128,34 +130,12 @@ fn below(z: u64) -> u64
     (z ^ (z - 1)) >> 8
 }
 
-// How many bytes such bits fill.
-fn filled(m: u64) -> usize
-    ensures { λ r. ⌜ Filled m r ⌝ }
+// How many bytes stand before the first mark.
+fn first(z: u64) -> usize
+    requires { ⌜ 1 ≤ z ⌝ }
+    ensures { λ r. ⌜ First z r ⌝ }
 {
-    let a = m & 0x0101010101010101;
-    let b = a + (a >> 32);
-    let c = b + (b >> 16);
-    let e = c + (c >> 8);
-    (e % 16) as usize
-}
-
-// How many bytes of a sort pass at i by words: up to the first that is not, or to where no eight are left.
-fn eights(sort: Sort, s: &[u8], i: usize) -> usize
-    requires { ⌜ i ≤ length (now s) ⌝ }
-    ensures { λ r. ⌜ (i + r ≤ length (now (s .entry))) × All (isOf sort) (now (s .entry)) i r ⌝ }
-{
-    let left = s.len() - i;
-    let mut m = 0;
-    while m + 8 <= left {
-        let a = i + m;
-        let e = a + 8;
-        let z = others(sort, words::word(&s[a..e]));
-        if z != 0 {
-            return m + filled(below(z));
-        }
-        m += 8;
-    }
-    m
+    (u64::trailing_zeros(z) >> 3) as usize
 }
 
 // How many bytes of a sort stand at i.
@@ -167,7 +147,16 @@ pub fn run(sort: Sort, s: &[u8], i: usize) -> usize
         return 0;
     }
     let left = n - i;
-    let mut m = eights(sort, s, i);
+    let mut m = 0;
+    while m + 8 <= left {
+        let a = i + m;
+        let e = a + 8;
+        let z = others(sort, words::word(&s[a..e]));
+        if z != 0 {
+            return m + first(z);
+        }
+        m += 8;
+    }
     while m < left {
         if !is(sort, s[i + m]) {
             break;
@@ -186,29 +175,7 @@ fn blend(d: &mut [u8], l: usize, w: u64, z: u64) -> usize
     let e = l + 8;
     let b = words::word(&d[l..e]);
     words::put_word(&mut d[l..e], b ^ ((b ^ w) & m));
-    filled(m)
-}
-
-// Copies bytes of a sort by words, at most `most`: up to the first that is not, or to where no eight are left.
-fn copy_eights(sort: Sort, d: &mut [u8], l: usize, s: &[u8], i: usize, most: usize) -> usize
-    requires { ⌜ (i + most ≤ length (now s)) × (l + most ≤ length (now d)) ⌝ }
-    ensures { λ r. ⌜ Copied (isOf sort) (now (d .entry)) l (now (s .entry)) i most r (now (d .exit)) ⌝ }
-{
-    let mut m = 0;
-    while m + 8 <= most {
-        let a = i + m;
-        let e = a + 8;
-        let w = words::word(&s[a..e]);
-        let z = others(sort, w);
-        let b = l + m;
-        if z != 0 {
-            return m + blend(d, b, w, z);
-        }
-        let c = b + 8;
-        words::put_word(&mut d[b..c], w);
-        m += 8;
-    }
-    m
+    first(z)
 }
 
 // Copies the bytes of a sort that stand at i, as many as there is room for, to d at l.
@@ -225,7 +192,20 @@ pub fn copy_run(sort: Sort, d: &mut [u8], l: usize, s: &[u8], i: usize) -> usize
     let left = s.len() - i;
     let room = d.len() - l;
     let most = if left < room { left } else { room };
-    let mut m = copy_eights(sort, d, l, s, i, most);
+    let mut m = 0;
+    while m + 8 <= most {
+        let a = i + m;
+        let e = a + 8;
+        let w = words::word(&s[a..e]);
+        let z = others(sort, w);
+        let b = l + m;
+        if z != 0 {
+            return m + blend(d, b, w, z);
+        }
+        let c = b + 8;
+        words::put_word(&mut d[b..c], w);
+        m += 8;
+    }
     while m < most {
         let b = s[i + m];
         if !is(sort, b) {
@@ -235,4 +215,117 @@ pub fn copy_run(sort: Sort, d: &mut [u8], l: usize, s: &[u8], i: usize) -> usize
         m += 1;
     }
     m
+}
+
+// What bytes outside a frame come to: whether the last of them was noise, how many noises began among them, and the place behind them.
+pub struct Heard {
+    pub noisy: bool,
+    pub count: usize,
+    pub at: usize,
+}
+
+// A mark for a noisy line.
+fn ticked(noisy: bool) -> u64
+    ensures { λ r. ⌜ r ≡ tick noisy ⌝ }
+{
+    if noisy { 0x80 } else { 0x00 }
+}
+
+// How many noises one byte is.
+fn one_noise(noisy: bool, b: u8) -> usize
+    ensures { λ r. ⌜ r ≡ noisesOf noisy (b ∷ []) ⌝ }
+{
+    if is_idle(b) {
+        return 0;
+    }
+    if noisy {
+        return 0;
+    }
+    1
+}
+
+// Of marks, for each byte the mark of the one before it; for the first, that of what came before.
+fn behind(z: u64, before: u64) -> u64
+    ensures { λ r. ⌜ Behind z before r ⌝ }
+{
+    (z << 8) | before
+}
+
+// How many of the bytes that `m` fills have a mark that follows none.
+fn begun(z: u64, was: u64, m: u64) -> usize
+    ensures { λ r. ⌜ Begun z was m r ⌝ }
+{
+    u64::count_ones(z & (was ^ 0xffffffffffffffff) & m) as usize
+}
+
+// The mark of what stands before the byte at k.
+fn noisy_at(was: u64, k: usize) -> u64
+    requires { ⌜ k < 8 ⌝ }
+    ensures { λ r. ⌜ NoisyAt was k r ⌝ }
+{
+    (was >> (8 * k)) & 0x80
+}
+
+// The last mark.
+fn noisy_behind(z: u64) -> u64
+    ensures { λ r. ⌜ NoisyBehind z r ⌝ }
+{
+    z >> 56
+}
+
+// What the bytes from i on that stand before a 7e come to, on a line that is noisy or not.
+pub fn noises(noisy: bool, s: &[u8], i: usize) -> Heard
+    ensures { λ r. ⌜ r ≡ noisesAt noisy (now (s .entry)) i ⌝ }
+{
+    let n = s.len();
+    if n <= i {
+        return Heard {
+            noisy,
+            count: 0,
+            at: i,
+        };
+    }
+    let mut before = ticked(noisy);
+    let mut count = 0;
+    let mut at = i;
+    while at + 8 <= n {
+        let e = at + 8;
+        let w = words::word(&s[at..e]);
+        let z = busy(w);
+        if z == 0 {
+            before = 0;
+            at = e;
+            continue;
+        }
+        let x = escapes(w);
+        let was = behind(z, before);
+        if x != 0 {
+            let k = first(x);
+            let more = begun(z, was, below(x));
+            let last = noisy_at(was, k);
+            return Heard {
+                noisy: last != 0,
+                count: count + more,
+                at: at + k,
+            };
+        }
+        count += begun(z, was, 0xffffffffffffffff);
+        before = noisy_behind(z);
+        at = e;
+    }
+    let mut noise = before != 0;
+    while at < n {
+        let b = s[at];
+        if b == 0x7e {
+            break;
+        }
+        count += one_noise(noise, b);
+        noise = !is_idle(b);
+        at += 1;
+    }
+    Heard {
+        noisy: noise,
+        count,
+        at,
+    }
 }

@@ -11,13 +11,13 @@ use Rattle.link_receive.specs.declared.Tallies.{Tallies}
 use Rattle.link_receive.specs.declared.Answer.{Answer}
 use Rattle.link_receive.specs.declared.Answer.the-variants.{Nothing, Frame, Refused}
 use Rattle.link_receive.specs.declared.Receiver.{Receiver}
-use Rattle.link_feed.specs.declared.Headway.{Headway}
+use Rattle.link_feed.specs.declared.Course.{Course}
 use Rattle.link_feed.specs.declared.Fed.{Fed}
 use Rattle.link_receive.specs.Step.{room, madeOf, Within}
 use Rattle.link_receive.proofs.Rules.{rulesOf-made}
 use Rattle.link_feed.specs.Feed.{stopped, feedFrom}
 use Rattle.link_feed.specs.Drain.{drainOf}
-use Rattle.link_feed.specs.Advance.{stopsAt, wentOf, Ahead, Onward}
+use Rattle.link_feed.specs.Advance.{stopsAt, wentOf, Led, Onward}
 use Rattle.link_feed.proofs.Feeds.{feedFrom-end}
 use Rattle.link_feed.proofs.Drains.{drainOf-from}
 
@@ -75,17 +75,17 @@ module _ (check : List ℕ → ℕ) (s : List ℕ) where
     pub same : wentOf check stop r s i ≡ f
 
   module _ (stop : Bool) (f : Fed) where
-    pub going-ahead :
-        (r : Receiver) (state : State) (body : List ℕ) (len : ℕ) (t : Tallies) (i : ℕ) (next : List ℕ) (p : Headway) →
-        Going stop f (madeOf r state body len t) i → Ahead check r state s body len i next p → length next ≡ length body →
-        Going stop f (madeOf r state next (p .len) t) (p .at)
-    going-ahead r state body len t i next p g a e =
-        let within : Within (madeOf r state next (p .len) t) = rw (rulesOf-made r state next (p .len) t) (a .within) in
+    pub going-led :
+        (r : Receiver) (state : State) (body : List ℕ) (len : ℕ) (t : Tallies) (i : ℕ) (c : Course) (u : Tallies) →
+        Going stop f (madeOf r state body len t) i → Led check r s state len i t c u →
+        Going stop f (madeOf r (c .state) body (c .len) u) (c .at)
+    going-led r state body len t i c u g a =
+        let within : Within (madeOf r (c .state) body (c .len) u) = rw (rulesOf-made r (c .state) body (c .len) u) (a .within) in
         record {
           inside = a .inside;
           within = within;
-          sized = e ∙ g .sized;
-          same = wentOf-alike (madeOf r state body len t) i (g .within) (madeOf r state next (p .len) t) (p .at) stop within (a .same t) ∙ g .same;
+          sized = g .sized;
+          same = wentOf-alike (madeOf r state body len t) i (g .within) (madeOf r (c .state) body (c .len) u) (c .at) stop within (a .same body) ∙ g .same;
         }
 
     module _ (r : Receiver) (i : ℕ) (g : Going stop f r i) where

@@ -1,7 +1,7 @@
 -- A receiver lent as ten numbers and its body: the tallies among the numbers, and how far feeding it goes. Assumes nothing.
-use mathlib.Core.Path.{_≡_, refl, _∙_}
+use mathlib.Core.Path.{_≡_, refl, sym, ap, _∙_}
 use mathlib.Core.List.{List, [], _∷_}
-use Prim.Native.Nat.{ℕ, _+_, _-_, _≤_, _<_}
+use Prim.Native.Nat.{ℕ, zero, suc, _+_, _-_, _%_, _^_, _≤_, _<_}
 use native.Mathlib.Omega.{arith}
 use lib.ListN.{length, getD, set, take, drop, drop-of-length-le, length-drop}
 use lib.Seq.{take-all}
@@ -13,7 +13,10 @@ use Rattle.link_feed.specs.declared.Fed.{Fed}
 use Rattle.link_receive.specs.declared.Receiver.{Receiver}
 use Rattle.link_receive.specs.declared.Answer.{Answer}
 use Rattle.link_receive.specs.declared.Answer.the-variants.{Nothing, Frame, Refused}
+use Rattle.link_receive.specs.declared.Tallies.{Tallies}
 use Rattle.link_receive.specs.declared.Tally.{Tally}
+use Rattle.reading.specs.Counters as k
+use Rattle.link_feed.specs.Advance.{noised}
 use Rattle.link_receive.specs.declared.Tally.the-variants as tally
 use Rattle.link_receive.specs.Tally.{counterOf, raise, eightOf}
 use Rattle.link_receive.specs.Numbered.{talliesAt, tallyIndex, receiverAt}
@@ -35,6 +38,26 @@ talliesAt-raise l tally.Giants h = rw (ten l h)
 talliesAt-raise l tally.Escaped h = rw (ten l h)
 talliesAt-raise l tally.Broken h = rw (ten l h)
 talliesAt-raise l tally.Noise h = rw (ten l h)
+
+-- several noises more are one sum
+abbrev withNoise : Tallies → ℕ → Tallies
+withNoise t n = record { openings = t .openings; frames = t .frames; runts = t .runts; checksums = t .checksums; giants = t .giants; escaped = t .escaped; broken = t .broken; noise = n }
+
+raised-more : (x n : ℕ) → raised ((x + suc n) % 2 ^ 64) ≡ (x + suc (suc n)) % 2 ^ 64
+raised-more x n = omega arith
+
+noised-sum : (n : ℕ) (t : Tallies) → noised (suc n) t ≡ withNoise t ((t .noise + suc n) % 2 ^ 64)
+noised-sum zero t = refl
+noised-sum (suc n) t = ap (raise k.noise) (noised-sum n t) ∙ ap (withNoise t) (raised-more (t .noise) n)
+
+talliesAt-noise : (l : List ℕ) (x : ℕ) → length l ≡ 10 → talliesAt (set l 9 x) ≡ withNoise (talliesAt l) x
+unfolding talliesAt
+talliesAt-noise l x h = rw (ten l h)
+
+pub talliesAt-noised : (l : List ℕ) (n : ℕ) → length l ≡ 10 → 1 ≤ n → talliesAt (set l 9 ((getD l 9 0 + n) % 2 ^ 64)) ≡ noised n (talliesAt l)
+unfolding talliesAt
+talliesAt-noised l zero h g = absurd (omega arith)
+talliesAt-noised l (suc n) h g = talliesAt-noise l ((getD l 9 0 + suc n) % 2 ^ 64) h ∙ sym (noised-sum n (talliesAt l))
 
 -- state and length written before them
 pub numbers-set : (l : List ℕ) (n m : ℕ) → length l ≡ 10 → set (set l 0 n) 1 m ≡ n ∷ m ∷ eightOf (talliesAt l)

@@ -1,6 +1,8 @@
 pub mod Feeds
 pub mod Drains
 pub mod Skips
+pub mod Held
+pub mod Passes
 pub mod Lent
 pub mod Onwards
 pub mod Goings

@@ -13,7 +13,7 @@ use lib.ListN.{length, getD, set, take, drop, length-set}
 use lib.Seq.{paste}
 use borrow.Author.Tests.{eqb-true, not-true, lt-ltb, eq-eqb, ne-eqb}
 use Rattle.byte_runs.specs.Runs.{isOf, lead, All, laid}
-use Rattle.byte_runs.proofs.Laws.{run-inside, run-all, run-stops, copy-room, copy-inside, copy-all, length-laid, laid-paste}
+use Rattle.byte_runs.proofs.Laws.{run-inside, run-all, copy-room, copy-inside, copy-all, length-laid, laid-paste}
 use Rattle.byte_runs.specs.declared.Sort.the-variants as sort
 use Rattle.laws.proofs.Cases.{by, never}
 use Rattle.reading.specs.Grammar.{Rules}
@@ -26,7 +26,7 @@ use Rattle.link_receive.specs.declared.Move.{Move}
 use Rattle.link_receive.specs.declared.Move.the-variants.{To, Push, Count}
 use Rattle.link_receive.specs.Step.{room, madeOf, rulesOf, outsideOf, turnOf}
 use Rattle.link_feed.specs.Feed.{feedFrom}
-use Rattle.link_feed.specs.declared.Headway.{Headway}
+use Rattle.link_feed.specs.declared.Units.{Units}
 use Rattle.link_feed.specs.Advance.{halfAt, Ahead, Skipped}
 use Rattle.link_receive.proofs.Turns.{tailOf-other}
 use Rattle.link_receive.proofs.Steps.{stepOf-made}
@@ -41,34 +41,14 @@ turnOf-idle rules len b e = go (eqb b 0x00) refl e
     go true f g = subst (λ (n : ℕ). outsideOf (Count tally.Noise Noise) n ≡ To Idle) (sym (eqb-true b 0x00 f)) refl
     go false f g = subst (λ (n : ℕ). outsideOf (Count tally.Noise Noise) n ≡ To Idle) (sym (eqb-true b 0xff g)) refl
 
--- noise leaves Noise
-pub turnOf-noise : (rules : Rules) (len b : ℕ) → isOf sort.Noise b ≡ true → turnOf rules Noise len b ≡ To Noise
-unfolding isOf turnOf
-turnOf-noise rules len b e = go (eqb b 0x7e) (eqb b 0x00) (eqb b 0xff) e
-  where
-    go : (x y z : Bool) → (not x && not (y || z)) ≡ true → cond x (To StartOfFrame) (cond y (To Idle) (cond z (To Idle) (To Noise))) ≡ To Noise
-    go true y z g = never g
-    go false true z g = never g
-    go false false true g = never g
-    go false false false g = refl
-
--- what is raw leaves the tail, and is a unit of a frame that has room
+-- what is raw leaves the tail
 pub turnOf-tail : (rules : Rules) (len b : ℕ) → isOf sort.Raw b ≡ true → turnOf rules Giant len b ≡ To Giant
 unfolding isOf turnOf
 turnOf-tail rules len b e = rw (not-true (eqb b 0x7e) e)
 
-raw-other : (b : ℕ) → (b ≡ 0x7e → ⊥) → isOf sort.Raw b ≡ true
+pub raw-other : (b : ℕ) → (b ≡ 0x7e → ⊥) → isOf sort.Raw b ≡ true
 unfolding isOf
 raw-other b e = rw (ne-eqb b 0x7e e)
-
-pub turnOf-unit : (rules : Rules) (len b : ℕ) → len < rules .limit → isOf sort.Raw b ≡ true → turnOf rules Frame len b ≡ Push b
-unfolding isOf turnOf
-turnOf-unit rules len b h e = rw (not-true (eqb b 0x7e) e, lt-ltb len (rules .limit) h)
-
--- 7e begins a pair
-turnOf-pair : (rules : Rules) (len b : ℕ) → b ≡ 0x7e → turnOf rules Frame len b ≡ To FrameEscape
-unfolding turnOf
-turnOf-pair rules len b e = rw e
 
 -- where a tail stands, by whether it is within a pair
 abbrev tailState : Bool → State
@@ -81,10 +61,9 @@ unfolding isOf turnOf
 turnOf-calm rules true len b e = sym (tailOf-other b (λ x. never (rw x at e)) (λ x. never (rw x at e)))
 turnOf-calm rules false len b e = by (eqb b 0x7e) (λ x. rw x) (λ x. rw x)
 
--- 07 and 08 are no 7e
-not-calm : (b : ℕ) → isOf sort.Calm b ≡ false → b ≡ 0x7e → ⊥
+calm-7e : (b : ℕ) → b ≡ 0x7e → isOf sort.Calm b ≡ true
 unfolding isOf
-not-calm b e x = never (sym (rw x at e))
+calm-7e b e = rw e
 
 -- the pairs of a row of 7e: one 7e more turns it over, and any other byte leaves none begun
 not-first : (x y : Bool) → (not x && y) ≡ true → x ≡ false
@@ -125,19 +104,13 @@ module _ (s : List ℕ) (i q : ℕ) (h : i < q) where
   pub half-none : (getD s (q - 1) 0 ≡ 0x7e → ⊥) → halfAt s i (q - i) ≡ false
   half-none e = half-before ∙ ap (λ (t : Bool). not (halfAt s i (q - 1 - i)) && t) (ne-eqb _ _ e) ∙ and-false (not (halfAt s i (q - 1 - i)))
 
-abbrev pub headway : ℕ → ℕ → Headway
-headway len i = record { len = len; at = i }
-
-two : (i : ℕ) → i + 2 ≡ i + 1 + 1
-two i = omega arith
-
-next : (i m : ℕ) → i + suc m ≡ i + m + 1
+pub next : (i m : ℕ) → i + suc m ≡ i + m + 1
 next i m = add-suc i m ∙ sym (add-one (i + m))
 
-less : (m : ℕ) → m < suc m
+pub less : (m : ℕ) → m < suc m
 less m = omega arith
 
-more : (k m : ℕ) → k < m → k < suc m
+pub more : (k m : ℕ) → k < m → k < suc m
 more k m h = omega arith
 
 module _ (check : List ℕ → ℕ) (o : Receiver) (s : List ℕ) where
@@ -180,7 +153,7 @@ module _ (check : List ℕ → ℕ) (o : Receiver) (s : List ℕ) where
           same = λ body len t l. feedFrom-stays Giant (isOf sort.Raw) len (turnOf-tail (rulesOf o) len) l body t i m h a ∙ k .same body len t l;
         }
 
-    skipped-byte : i < length s → (getD s i 0 ≡ 0x7e → ⊥) → Skipped check o s i₀ (i + 1)
+    pub skipped-byte : i < length s → (getD s i 0 ≡ 0x7e → ⊥) → Skipped check o s i₀ (i + 1)
     skipped-byte h e = skipped-run 1 (omega arith) (λ j u. let z : i + j ≡ i = omega arith in rw z (raw-other (getD s i 0) e))
 
     skipped-tail : (m : ℕ) → i + m ≤ length s → All (isOf sort.Calm) s i m → halfAt s i m ≡ false → Skipped check o s i₀ (i + m)
@@ -190,6 +163,18 @@ module _ (check : List ℕ → ℕ) (o : Receiver) (s : List ℕ) where
           further = omega (arith, k .further);
           same = λ body len t l. ap (λ (x : Bool). feedFrom check (madeOf o (tailState x) body len t) (drop (i + m) s) (i + m)) (sym e) ∙ feedFrom-tail body len t l i m h a ∙ k .same body len t l;
         }
+
+    -- a pair that does not end the tail
+    pub skipped-pair : i + 2 ≤ length s → getD s i 0 ≡ 0x7e → isOf sort.Calm (getD s (i + 1) 0) ≡ true → Skipped check o s i₀ (i + 2)
+    skipped-pair h e f = skipped-tail 2 h both ended
+      where
+        both : All (isOf sort.Calm) s i 2
+        both zero u = let z : i + 0 ≡ i = omega arith in rw z (calm-7e (getD s i 0) e)
+        both (suc zero) u = f
+        both (suc (suc j)) u = absurd (omega arith)
+
+        ended : halfAt s i 2 ≡ false
+        ended = let z : i + 0 ≡ i = omega arith in rw (z, eq-eqb _ _ e)
 
     -- where a pair is begun, up to it
     skipped-half : (m : ℕ) → i + m ≤ length s → All (isOf sort.Calm) s i m → halfAt s i m ≡ true → (1 ≤ m) × Skipped check o s i₀ (i + m - 1)
@@ -215,78 +200,11 @@ module _ (check : List ℕ → ℕ) (o : Receiver) (s : List ℕ) where
       pub tail-whole : halfAt s i (i + m - i) ≡ false → Skipped check o s i₀ (i + m)
       tail-whole f = skipped-tail m tail-inside all (ap (halfAt s i) (sym behind) ∙ f)
 
-  module _ (i₀ i m : ℕ) (k : Skipped check o s i₀ i) (e : m ≡ lead (isOf sort.Calm) (drop i s)) where
-    pub tail-past : halfAt s i (i + m - i) ≡ false → i + m < length s → Skipped check o s i₀ (i + m + 1)
-    tail-past f h = skipped-byte i₀ (i + m) (tail-whole i₀ i k m e f) h (not-calm (getD s (i + m) 0) (run-stops (isOf sort.Calm) s i m (k .inside) e h))
-
-  -- raw bytes of an open frame, as far as there is room
-  pub feedFrom-units :
-      (body : List ℕ) (len : ℕ) (t : Tallies) (i m : ℕ) → len + m ≤ rulesOf o .limit → i + m ≤ length s → All (isOf sort.Raw) s i m →
-      feedFrom check (madeOf o Frame (laid body len s i m) (len + m) t) (drop (i + m) s) (i + m) ≡ feedFrom check (madeOf o Frame body len t) (drop i s) i
-  feedFrom-units body len t i zero h g a =
-      ap₂ (λ (l n : ℕ). feedFrom check (madeOf o Frame body l t) (drop n s) n) (add-zero len) (add-zero i)
-  feedFrom-units body len t i (suc m) h g a =
-      let r = madeOf o Frame (laid body len s i m) (len + m) t in
-      let b = getD s (i + m) 0 in
-      let l : len + m < rulesOf o .limit = omega (arith, next len m) in
-      ap₂ (λ (l n : ℕ). feedFrom check (madeOf o Frame (laid body len s i (suc m)) l t) (drop n s) n) (next len m) (next i m)
-      ∙ feedFrom-more check r (madeOf o Frame (set (laid body len s i m) (len + m) b) (len + m + 1) t) s (i + m) (omega (arith, next i m)) (stepOf-made check o Frame (laid body len s i m) (len + m) t b (Push b) (le-of-lt l) (turnOf-unit (rulesOf o) (len + m) b l (a m (less m))))
-      ∙ feedFrom-units body len t i m (le-of-lt l) (omega (arith, next i m)) (λ k u. a k (more k m u))
-
-  -- units of an open frame taken so far, from a body, a length and a place: the loop of `units` keeps this
-  pub record Held (body : List ℕ) (len i : ℕ) (next : List ℕ) (p : Headway) : Type 0 where
-    pub ahead : Ahead check o Frame s body len i next p
-    pub sized : length next ≡ room
-
-  pub held-none : (body : List ℕ) (len i : ℕ) → len ≤ rulesOf o .limit → length body ≡ room → i ≤ length s → Held body len i body (headway len i)
-  held-none body len i h e g = record { ahead = record { inside = g; further = omega arith; within = h; same = λ t. refl }; sized = e }
-
-  module _ (b₀ : List ℕ) (l₀ i₀ : ℕ) (body : List ℕ) (len i : ℕ) (held : Held b₀ l₀ i₀ body (headway len i)) where
-    -- a run of raw bytes more, up to the array's end, where that is the limit
-    pub held-run :
-        rulesOf o .limit ≡ room → (next : List ℕ) (k : ℕ) → k ≡ lead (isOf sort.Raw) (take (length body - len) (drop i s)) → next ≡ paste body len (drop i s) k →
-        Held b₀ l₀ i₀ next (headway (len + k) (i + k))
-    held-run full next k e f =
-        let free = length body - len in
-        let here : i ≤ length s = held .ahead .inside in
-        let fits : k ≤ free = copy-room (isOf sort.Raw) s i free k here e in
-        let inside : i + k ≤ length s = copy-inside (isOf sort.Raw) s i free k here e in
-        let within : len + k ≤ rulesOf o .limit = omega (arith, held .sized, held .ahead .within) in
-        let laid-now : next ≡ laid body len s i k = f ∙ sym (laid-paste body len s i k (omega (arith, held .sized)) inside) in
-        record {
-          ahead =
-              record {
-                inside = inside;
-                further = omega (arith, held .ahead .further);
-                within = within;
-                same =
-                    λ t.
-                    ap (λ (x : List ℕ). feedFrom check (madeOf o Frame x (len + k) t) (drop (i + k) s) (i + k)) laid-now
-                    ∙ feedFrom-units body len t i k within inside (copy-all (isOf sort.Raw) s i free k here e)
-                    ∙ held .ahead .same t;
-              };
-          sized = ap length laid-now ∙ length-laid body len s i k ∙ held .sized;
-        }
-
-    -- an escape more
-    pub held-escape :
-        (d : ℕ) → i + 2 ≤ length s → len < rulesOf o .limit → getD s i 0 ≡ 0x7e → turnOf (rulesOf o) FrameEscape len (getD s (i + 1) 0) ≡ Push d →
-        Held b₀ l₀ i₀ (set body len d) (headway (len + 1) (i + 2))
-    held-escape d g h e f =
-        record {
-          ahead =
-              record {
-                inside = g;
-                further = omega (arith, held .ahead .further);
-                within = omega arith;
-                same =
-                    λ t.
-                    let r = madeOf o Frame body len t in
-                    let q = madeOf o FrameEscape body len t in
-                    ap (λ (n : ℕ). feedFrom check (madeOf o Frame (set body len d) (len + 1) t) (drop n s) n) (two i)
-                    ∙ feedFrom-more check q (madeOf o Frame (set body len d) (len + 1) t) s (i + 1) (omega arith) (stepOf-made check o FrameEscape body len t (getD s (i + 1) 0) (Push d) (le-of-lt h) f)
-                    ∙ feedFrom-more check r q s i (omega arith) (stepOf-made check o Frame body len t (getD s i 0) (To FrameEscape) (le-of-lt h) (turnOf-pair (rulesOf o) len (getD s i 0) e))
-                    ∙ held .ahead .same t;
-              };
-          sized = simp length-set (held .sized);
-        }
+  -- one skip behind another
+  pub skipped-then : (i j l : ℕ) → Skipped check o s i j → Skipped check o s j l → Skipped check o s i l
+  skipped-then i j l a b =
+      record {
+        inside = b .inside;
+        further = omega (arith, a .further, b .further);
+        same = λ body len t h. b .same body len t h ∙ a .same body len t h;
+      }

@@ -7,14 +7,13 @@ ghost use Rattle.crc.specs.Crc.{crcOf};
 ghost use Rattle.link_receive.specs.Tally.{counterOf, raise};
 ghost use Rattle.link_receive.specs.Numbered.{numberCount, tallyIndex, talliesAt};
 ghost use Rattle.link_receive.specs.Step.{room, freshOf, parsedOf, closedOf, stepOf};
-ghost use Rattle.link_feed.specs.Advance.{heldOf, limit, steppedOf, stoodOf, fedOf, Ahead, Stands, Paired, Onward, stopsAt, wentOf};
+ghost use Rattle.link_feed.specs.Advance.{heldOf, limit, steppedOf, stoodOf, fedOf, isOutside, isNoise, Led, Stretched, Onward, stopsAt, wentOf};
 use crate::Advanced;
-use crate::Headway;
-use crate::Pair;
+use crate::Course;
 use crate::Stood;
+use crate::inside::inside;
+use crate::outside::outside;
 use crate::tails::tail;
-use byte_runs::Sort;
-use escaping::Unescaped;
 use link_receive::Answer;
 use link_receive::Move;
 use link_receive::Parsed;
@@ -41,7 +40,7 @@ fn index_of(tally: Tally) -> usize
 }
 
 // One more of a tally.
-fn raise(tallies: &mut [u64], tally: Tally)
+pub fn raise(tallies: &mut [u64], tally: Tally)
     requires { ⌜ length (now tallies) ≡ numberCount ⌝ }
     ensures { λ _. ⌜ talliesAt (now (tallies .exit)) ≡ raise (counterOf tally) (talliesAt (now (tallies .entry))) ⌝ }
 {
@@ -50,7 +49,7 @@ fn raise(tallies: &mut [u64], tally: Tally)
 }
 
 // The open frame of `len` units closed, in whatever state the receiver is.
-fn close(tallies: &mut [u64], body: &[u8], len: usize) -> Answer
+pub fn close(tallies: &mut [u64], body: &[u8], len: usize) -> Answer
     requires { ⌜ (length (now tallies) ≡ numberCount) × (len ≤ length (now body)) ⌝ }
     ensures { λ r. ⌜ ((st : State) → steppedOf State.Idle (now (body .entry)) 0 (now (tallies .exit)) r ≡ closedOf (heldOf st (now (body .entry)) len (now (tallies .entry))) (parsedOf crcOf (take len (now (body .entry))))) ⌝ }
 {
@@ -120,107 +119,85 @@ fn one(state: State, len: usize, tallies: &mut [u64], body: &mut [u8], b: u8) ->
     }
 }
 
-// The units of an open frame, raw and escaped, as far as there is room and the slice has them whole.
-fn units(len0: usize, body: &mut [u8], s: &[u8], i0: usize) -> Headway
-    requires { ⌜ (len0 ≤ limit) × (length (now body) ≡ room) × (i0 ≤ length (now s)) ⌝ }
-    ensures { λ r. ⌜ Ahead crcOf freshOf State.Frame (now (s .entry)) (now (body .entry)) len0 i0 (now (body .exit)) r ⌝ }
-{
-    let mut len = len0;
-    let mut i = i0;
-    while i < s.len() {
-        let k = byte_runs::copy_run(Sort::Raw, body, len, s, i);
-        len += k;
-        i += k;
-        if s.len() - i < 2 {
-            break;
-        }
-        if s[i] != 0x7e {
-            break;
-        }
-        if Receiver::MAX_FRAME_SIZE <= len {
-            break;
-        }
-        match escaping::unescaped_byte(s[i + 1]) {
-            Unescaped::Byte(d) => {
-                body[len] = d;
-                len += 1;
-                i += 2;
-            }
-            Unescaped::Invalid => {
-                break;
-            }
-        }
-    }
-    Headway { len: len, at: i }
-}
-
-// Many bytes at once, where all of them leave the state as it is: idle bytes, noise, what a tail skips, and units of an open frame.
-fn ahead(state: State, len: usize, body: &mut [u8], s: &[u8], i: usize) -> Headway
-    requires { ⌜ (len ≤ limit) × (length (now body) ≡ room) × (i ≤ length (now s)) ⌝ }
-    ensures { λ r. ⌜ Ahead crcOf freshOf state (now (s .entry)) (now (body .entry)) len i (now (body .exit)) r ⌝ }
+// Whether a state is outside an open frame and the overlong tail, with no 7e waiting.
+fn is_outside(state: State) -> bool
+    ensures { λ r. ⌜ r ≡ isOutside state ⌝ }
 {
     match state {
-        State::Idle => {
-            let k = byte_runs::run(Sort::Idle, s, i);
-            Headway {
-                len: len,
-                at: i + k,
-            }
-        }
-        State::Noise => {
-            let k = byte_runs::run(Sort::Noise, s, i);
-            Headway {
-                len: len,
-                at: i + k,
-            }
-        }
-        State::Frame => units(len, body, s, i),
+        State::Idle => true,
+        State::Noise => true,
+        State::StartOfFrame => false,
+        State::Frame => false,
+        State::FrameEscape => false,
+        State::Giant => false,
+        State::GiantEscape => false,
+    }
+}
+
+fn is_noise(state: State) -> bool
+    ensures { λ r. ⌜ r ≡ isNoise state ⌝ }
+{
+    match state {
+        State::Idle => false,
+        State::Noise => true,
+        State::StartOfFrame => false,
+        State::Frame => false,
+        State::FrameEscape => false,
+        State::Giant => false,
+        State::GiantEscape => false,
+    }
+}
+
+// Outside a frame: up to its opener, which is taken, or to the slice's end. In any other state nothing is taken.
+fn line(state: State, len: usize, tallies: &mut [u64], s: &[u8], i: usize) -> Course
+    requires { ⌜ (len ≤ limit) × (length (now tallies) ≡ numberCount) × (i < length (now s)) ⌝ }
+    ensures { λ r. ⌜ Led crcOf freshOf (now (s .entry)) state len i (talliesAt (now (tallies .entry))) r (talliesAt (now (tallies .exit))) ⌝ }
+{
+    if !is_outside(state) {
+        return Course {
+            state: state,
+            len: len,
+            at: i,
+        };
+    }
+    let noisy = is_noise(state);
+    outside(noisy, len, tallies, s, i)
+}
+
+// Many bytes at once inside a frame, up to its end if the slice has it, and in an overlong tail, up to the pair that ends it.
+fn stretch(
+    state: State,
+    len: usize,
+    tallies: &mut [u64],
+    body: &mut [u8],
+    s: &[u8],
+    i: usize,
+) -> Advanced
+    requires { ⌜ (len ≤ limit) × (length (now body) ≡ room) × (length (now tallies) ≡ numberCount) × (i ≤ length (now s)) × (isOutside state ≡ true → i ≡ length (now s)) ⌝ }
+    ensures { λ r. ⌜ Stretched crcOf (now (s .entry)) (heldOf state (now (body .entry)) len (now (tallies .entry))) i (heldOf (r .state) (now (body .exit)) (r .len) (now (tallies .exit))) (r .answer) (r .at) ⌝ }
+{
+    match state {
+        State::Frame => inside(len, tallies, body, s, i),
         State::Giant => {
-            let k = tail(s, i);
-            Headway { len: len, at: k }
-        }
-        _ => Headway { len: len, at: i },
-    }
-}
-
-// Whether 7e and `code` stand at a place.
-fn stands(s: &[u8], i: usize, code: u8) -> bool
-    requires { ⌜ i < length (now s) ⌝ }
-    ensures { λ r. ⌜ (r ≡ true → Stands (now (s .entry)) i code) ⌝ }
-{
-    if s.len() - i < 2 {
-        return false;
-    }
-    if s[i] != 0x7e {
-        return false;
-    }
-    s[i + 1] == code
-}
-
-// The pair at a place, if it is one that opens or closes a frame in this state.
-fn pair(state: State, s: &[u8], i: usize) -> Pair
-    requires { ⌜ i < length (now s) ⌝ }
-    ensures { λ r. ⌜ Paired state (now (s .entry)) i r ⌝ }
-{
-    match state {
-        State::Idle => {
-            if stands(s, i, 0x07) {
-                return Pair::Opener;
+            let at = tail(s, i);
+            Advanced {
+                state: State::Giant,
+                len: len,
+                answer: Answer::Nothing,
+                at: at,
             }
-            Pair::Neither
         }
-        State::Frame => {
-            if stands(s, i, 0x08) {
-                return Pair::Closer;
-            }
-            Pair::Neither
-        }
-        _ => Pair::Neither,
+        _ => Advanced {
+            state: state,
+            len: len,
+            answer: Answer::Nothing,
+            at: i,
+        },
     }
 }
 
-// The pair at a place that opens or closes a frame, or else one byte.
-fn onward(
+// One byte of a slice.
+fn single(
     state: State,
     len: usize,
     tallies: &mut [u64],
@@ -231,37 +208,39 @@ fn onward(
     requires { ⌜ (len ≤ limit) × (length (now body) ≡ room) × (length (now tallies) ≡ numberCount) × (i < length (now s)) ⌝ }
     ensures { λ r. ⌜ Onward crcOf (now (s .entry)) (heldOf state (now (body .entry)) len (now (tallies .entry))) i (heldOf (r .state) (now (body .exit)) (r .len) (now (tallies .exit))) (r .answer) (r .at) ⌝ }
 {
-    match pair(state, s, i) {
-        Pair::Opener => {
-            raise(tallies, Tally::Openings);
-            Advanced {
-                state: State::Frame,
-                len: 0,
-                answer: Answer::Nothing,
-                at: i + 2,
-            }
-        }
-        Pair::Closer => {
-            let answer = close(tallies, body, len);
-            Advanced {
-                state: State::Idle,
-                len: 0,
-                answer: answer,
-                at: i + 2,
-            }
-        }
-        Pair::Neither => {
-            let x = one(state, len, tallies, body, s[i]);
-            let next = x.state;
-            let answer = x.answer;
-            Advanced {
-                state: next,
-                len: x.len,
-                answer: answer,
-                at: i + 1,
-            }
-        }
+    let x = one(state, len, tallies, body, s[i]);
+    let next = x.state;
+    let answer = x.answer;
+    Advanced {
+        state: next,
+        len: x.len,
+        answer: answer,
+        at: i + 1,
     }
+}
+
+// A frame up to its end, or else as much as goes at once and one byte more, if there is one.
+fn onward(
+    state: State,
+    len: usize,
+    tallies: &mut [u64],
+    body: &mut [u8],
+    s: &[u8],
+    i: usize,
+) -> Advanced
+    requires { ⌜ (len ≤ limit) × (length (now body) ≡ room) × (length (now tallies) ≡ numberCount) × (i ≤ length (now s)) × (isOutside state ≡ true → i ≡ length (now s)) ⌝ }
+    ensures { λ r. ⌜ Onward crcOf (now (s .entry)) (heldOf state (now (body .entry)) len (now (tallies .entry))) i (heldOf (r .state) (now (body .exit)) (r .len) (now (tallies .exit))) (r .answer) (r .at) ⌝ }
+{
+    let a = stretch(state, len, tallies, body, s, i);
+    let next = a.state;
+    if is_outside(next) {
+        return a;
+    }
+    let at = a.at;
+    if at == s.len() {
+        return a;
+    }
+    single(next, a.len, tallies, body, s, at)
 }
 
 // Whether to stop at an answer.
@@ -291,13 +270,9 @@ pub fn advance(
     let mut len = len0;
     let mut i = i0;
     while i < s.len() {
-        let p = ahead(state, len, body, s, i);
-        len = p.len;
-        i = p.at;
-        if i == s.len() {
-            break;
-        }
-        let a = onward(state, len, tallies, body, s, i);
+        let o = line(state, len, tallies, s, i);
+        let from = o.state;
+        let a = onward(from, o.len, tallies, body, s, o.at);
         let answer = a.answer;
         if stops(answer, stop) {
             return a;

@@ -14,7 +14,9 @@ use link_receive::numbered::receiver_at;
 use link_receive::numbered::state_number;
 
 mod feeding;
+mod inside;
 pub mod lending;
+mod outside;
 mod tails;
 
 // A receiver handed back, what it hands out, and the number of bytes taken.
@@ -36,17 +38,18 @@ pub struct Reached {
     pub at: usize,
 }
 
-// How many units are held, and how many bytes of a slice were taken.
-struct Headway {
+// The units of an open frame: how many are held, the place behind them, and, where the pair that stands there is no unit, its second byte; else 0.
+struct Units {
     len: usize,
     at: usize,
+    code: u8,
 }
 
-// What stands at a place: the pair that opens a frame, outside one; the pair that closes the open frame; or whatever else.
-enum Pair {
-    Opener,
-    Closer,
-    Neither,
+// Where the bytes outside a frame lead: to the open frame behind its opener, or to the slice's end.
+struct Course {
+    state: State,
+    len: usize,
+    at: usize,
 }
 
 // A receiver after one byte, its body and tallies beside it, and what it hands out.

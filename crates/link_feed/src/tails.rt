@@ -6,6 +6,7 @@ ghost use lib.ListN.{length};
 ghost use Rattle.crc.specs.Crc.{crcOf};
 ghost use Rattle.link_receive.specs.Step.{freshOf};
 ghost use Rattle.link_feed.specs.Advance.{halfAt, Skipped};
+use crate::outside::end_of;
 use byte_runs::Sort;
 
 // Whether the bytes of a tail from i to j end within a pair: of a row of 7e before j every second one ends a pair, so an odd one is left.
@@ -25,22 +26,57 @@ fn half(s: &[u8], i: usize, j: usize) -> bool
     odd
 }
 
-// What an overlong tail skips, as far as the slice has it whole: all before the pair that opens or closes a frame.
+// Units of a tail one by one, up to a place, or to the pair that ends the tail or a lone last 7e before it.
+fn few(s: &[u8], i0: usize, end: usize) -> usize
+    requires { ⌜ (i0 ≤ end) × (end ≤ length (now s)) ⌝ }
+    ensures { λ r. ⌜ Skipped crcOf freshOf (now (s .entry)) i0 r ⌝ }
+{
+    let mut i = i0;
+    while i < end {
+        if s[i] != 0x7e {
+            i += 1;
+            continue;
+        }
+        if s.len() - i < 2 {
+            break;
+        }
+        if !byte_runs::is(Sort::Calm, s[i + 1]) {
+            break;
+        }
+        i += 2;
+    }
+    i
+}
+
+// All up to the next 07 or 08 at once, or, if that one ends a pair or the slice ends within one, up to the pair.
+fn leap(s: &[u8], i: usize) -> usize
+    requires { ⌜ i ≤ length (now s) ⌝ }
+    ensures { λ r. ⌜ Skipped crcOf freshOf (now (s .entry)) i r ⌝ }
+{
+    let k = byte_runs::run(Sort::Calm, s, i);
+    let j = i + k;
+    if half(s, i, j) {
+        return j - 1;
+    }
+    j
+}
+
+// What an overlong tail skips, as far as the slice has it whole: all before the pair that opens or closes a frame. After a leap that went far
+// the next one is tried soon, after a short one late.
 pub fn tail(s: &[u8], i0: usize) -> usize
     requires { ⌜ i0 ≤ length (now s) ⌝ }
     ensures { λ r. ⌜ Skipped crcOf freshOf (now (s .entry)) i0 r ⌝ }
 {
     let mut i = i0;
+    let mut pace = 2;
     while i < s.len() {
-        let k = byte_runs::run(Sort::Calm, s, i);
-        let j = i + k;
-        if half(s, i, j) {
-            return j - 1;
+        let end = end_of(s.len(), i, pace);
+        let from = few(s, i, end);
+        if from < end {
+            return from;
         }
-        if j == s.len() {
-            return j;
-        }
-        i = j + 1;
+        i = leap(s, from);
+        pace = if i - from < 8 { 64 } else { 2 };
     }
     i
 }

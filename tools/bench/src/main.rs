@@ -1,5 +1,8 @@
 //! The race: the Rust and the proved side on the same bytes in one process, run by turns, best and median of many.
 //!
+//! The rows stand in two groups: 'typical', what a line and a desk see every day, and 'bad days', streams that damage or a talker gone mad
+//! could make and whose runs are of one or two bytes. At the end stands each group's worst ratio.
+//!
 //!     race [ROUNDS [MIB [NAME]]]      NAME: only the rows whose name has it
 use driver::doors;
 use driver::doors::link as ours;
@@ -17,11 +20,25 @@ type Row = (usize, Box<dyn FnMut() -> u64>, Box<dyn FnMut() -> u64>);
 
 /// The rows by name. A row's input is made when its turn comes, so that a row can be run, and looked at, alone.
 #[derive(Default)]
-struct Rows(Vec<(&'static str, Box<dyn FnOnce() -> Row>)>);
+struct Rows(Vec<(String, Box<dyn FnOnce() -> Row>)>);
 
 impl Rows {
-    fn add(&mut self, name: &'static str, row: impl FnOnce() -> Row + 'static) {
-        self.0.push((name, Box::new(row)));
+    fn add(&mut self, name: impl Into<String>, row: impl FnOnce() -> Row + 'static) {
+        self.0.push((name.into(), Box::new(row)));
+    }
+
+    /// The two rows of a stream: its ledger, and its frames handed out.
+    fn stream(&mut self, name: &str, stream: impl FnOnce() -> Vec<u8> + Clone + 'static) {
+        let kept = move || -> &'static [u8] { Box::leak(stream().into_boxed_slice()) };
+        let again = kept.clone();
+        self.add(format!("{name}: ledger"), move || {
+            let s = kept();
+            (s.len(), Box::new(move || rust_ledger(black_box(s))), Box::new(move || our_ledger(black_box(s))))
+        });
+        self.add(format!("{name}: frames"), move || {
+            let s = again();
+            (s.len(), Box::new(move || rust_frames(black_box(s))), Box::new(move || our_frames(black_box(s))))
+        });
     }
 }
 
@@ -53,7 +70,8 @@ fn timed(f: &mut dyn FnMut() -> u64) -> (f64, u64) {
     (clock() - start, result)
 }
 
-fn race(name: &str, (bytes, mut rusts, mut own): Row, rounds: usize) {
+/// Runs a row and prints it; the ratio of the two bests.
+fn race(name: &str, (bytes, mut rusts, mut own): Row, rounds: usize) -> f64 {
     let (mut rust, mut ours) = (Vec::new(), Vec::new());
     for round in 0..rounds {
         // who goes first changes, so that neither always finds the cache warm
@@ -70,7 +88,7 @@ fn race(name: &str, (bytes, mut rusts, mut own): Row, rounds: usize) {
     }
     let (r, o) = (figures(&mut rust, bytes), figures(&mut ours, bytes));
     println!(
-        "| {:<42} | {:>6.2} | {:>6.2} | {:>6.0} | {:>6.2} | {:>6.2} | {:>6.0} | {:>5.2} | {:>5.2} |",
+        "| {:<46} | {:>6.2} | {:>6.2} | {:>6.0} | {:>6.2} | {:>6.2} | {:>6.0} | {:>5.2} | {:>5.2} |",
         name,
         r.0,
         r.1,
@@ -81,6 +99,7 @@ fn race(name: &str, (bytes, mut rusts, mut own): Row, rounds: usize) {
         o.0 / r.0,
         o.1 / r.1
     );
+    o.0 / r.0
 }
 
 // ---- the link receiver
@@ -147,19 +166,6 @@ fn our_frames(s: &[u8]) -> u64 {
     }
     let p = &r.place;
     told(p[3], p[4], p[5], p[6], p[9]).wrapping_add(sum)
-}
-
-/// The two rows of a stream: its ledger, and its frames handed out.
-fn receiver_rows(rows: &mut Rows, ledger: &'static str, frames: &'static str, stream: impl FnOnce() -> Vec<u8> + Copy + 'static) {
-    let kept = move || -> &'static [u8] { Box::leak(stream().into_boxed_slice()) };
-    rows.add(ledger, move || {
-        let s = kept();
-        (s.len(), Box::new(move || rust_ledger(black_box(s))), Box::new(move || our_ledger(black_box(s))))
-    });
-    rows.add(frames, move || {
-        let s = kept();
-        (s.len(), Box::new(move || rust_frames(black_box(s))), Box::new(move || our_frames(black_box(s))))
-    });
 }
 
 fn repeated(size: usize, mut one: impl FnMut() -> Vec<u8>) -> Vec<u8> {
@@ -315,7 +321,8 @@ fn encoded(size: usize, least: usize, most: usize) -> Vec<u8> {
     })
 }
 
-fn rows(size: usize) -> Rows {
+/// What a line and a desk see every day.
+fn typical(size: usize) -> Rows {
     let mut rows = Rows::default();
     rows.add("crc, slices of 10 bytes", move || check_row(size, 10));
     rows.add("crc, slices of 64 bytes", move || check_row(size, 64));
@@ -327,15 +334,109 @@ fn rows(size: usize) -> Rows {
         let s: &'static [u8] = Box::leak(make::capture(1, size).into_boxed_slice());
         (s.len(), Box::new(move || rust_whole(black_box(s))), Box::new(move || our_whole(black_box(s))))
     });
-    receiver_rows(&mut rows, "receiver, capture: ledger", "receiver, capture: frames handed out", move || make::capture(1, size));
-    receiver_rows(&mut rows, "receiver, bodies of 6 to 20: ledger", "receiver, bodies of 6 to 20: frames", move || encoded(size, 0, 14));
-    receiver_rows(&mut rows, "receiver, bodies of 200 to 256: ledger", "receiver, bodies of 200 to 256: frames", move || encoded(size, 194, 250));
-    receiver_rows(&mut rows, "receiver, idle ff: ledger", "receiver, idle ff: frames", move || vec![0xff; size]);
-    receiver_rows(&mut rows, "receiver, noise: ledger", "receiver, noise: frames", move || Rng::of(2, "noise").bytes(size));
-    receiver_rows(&mut rows, "receiver, tails of data: ledger", "receiver, tails of data: frames", move || encoded(size, 4000, 4000));
-    receiver_rows(&mut rows, "receiver, tails of many pairs: ledger", "receiver, tails of many pairs: frames", move || {
+    rows.stream("capture", move || make::capture(1, size));
+    rows.stream("bodies of 6 to 20", move || encoded(size, 0, 14));
+    rows.stream("bodies of 200 to 256", move || encoded(size, 194, 250));
+    rows.stream("idle ff", move || vec![0xff; size]);
+    rows.stream("noise", move || Rng::of(2, "noise").bytes(size));
+    rows.stream("tails of data", move || encoded(size, 4000, 4000));
+    rows.stream("tails of many pairs", move || {
         let mut rng = Rng::of(2, "tails");
         repeated(size, || make::units(&mut rng, 4000, false, &[0x7e, 0x08]))
+    });
+    rows
+}
+
+/// The bytes again and again.
+fn cycled(size: usize, bytes: &'static [u8]) -> impl FnOnce() -> Vec<u8> + Clone {
+    move || repeated(size, || bytes.to_vec())
+}
+
+/// Random bytes of a few.
+fn random_of(size: usize, bytes: &'static [u8]) -> impl FnOnce() -> Vec<u8> + Clone {
+    move || {
+        let mut rng = Rng::of(2, "few");
+        (0..size).map(|_| rng.pick(bytes)).collect()
+    }
+}
+
+/// An overlong frame whose tail goes on with the bytes, to the end of the stream.
+fn tail_of(size: usize, bytes: &'static [u8]) -> impl FnOnce() -> Vec<u8> + Clone {
+    move || {
+        let mut out = vec![0x7e, 0x07];
+        out.extend([0x41; 257]);
+        out.extend(repeated(size, || bytes.to_vec()));
+        out
+    }
+}
+
+/// Frames, one after another, with the same payload.
+fn frames_of(size: usize, payload: Vec<u8>) -> impl FnOnce() -> Vec<u8> + Clone {
+    let one = Plain { address: 0x9201, kind: 0x0b00, payload }.encode();
+    move || repeated(size, || one.clone())
+}
+
+/// Runs of the bytes, each of 1 to `most` of one of them.
+fn runs_of(size: usize, most: usize, bytes: &'static [u8]) -> impl FnOnce() -> Vec<u8> + Clone {
+    move || {
+        let mut rng = Rng::of(2, "runs");
+        repeated(size, || {
+            let n = rng.within(1, most);
+            vec![rng.pick(bytes); n]
+        })
+    }
+}
+
+/// Streams that damage could make, or a talker gone mad. What an encoder writes is not among them, but for frames that are all escapes.
+fn bad_days(size: usize) -> Rows {
+    let mut rows = Rows::default();
+    rows.stream("a tail of 07", tail_of(size, &[0x07]));
+    rows.stream("a tail of 08 41", tail_of(size, &[0x08, 0x41]));
+    rows.stream("a tail of 7e 7e", tail_of(size, &[0x7e]));
+    rows.stream("a tail of 7e 41", tail_of(size, &[0x7e, 0x41]));
+    rows.stream("a tail of 7e 7e 07", tail_of(size, &[0x7e, 0x7e, 0x07]));
+    rows.stream("tails ended at once by 7e 07", {
+        let mut one = vec![0x41; 257];
+        one.extend([0x7e, 0x07]);
+        move || {
+            let mut out = vec![0x7e, 0x07];
+            out.extend(repeated(size, || one.clone()));
+            out
+        }
+    });
+    rows.stream("escaped overlong frames", {
+        let mut one = vec![0x7e, 0x07];
+        one.extend([0x41; 256]);
+        one.extend([0x7e, 0x01, 0x08]);
+        move || repeated(size, || one.clone())
+    });
+    rows.stream("41 00 by turns", cycled(size, &[0x41, 0x00]));
+    rows.stream("00 ff by turns", cycled(size, &[0x00, 0xff]));
+    rows.stream("41 41 00", cycled(size, &[0x41, 0x41, 0x00]));
+    rows.stream("outside pairs 7e 7e", cycled(size, &[0x7e]));
+    rows.stream("outside pairs 7e 00 ff", cycled(size, &[0x7e, 0x00, 0xff]));
+    rows.stream("outside pairs 41 7e 41", cycled(size, &[0x41, 0x7e, 0x41]));
+    rows.stream("broken at once, 7e 07 7e 07", cycled(size, &[0x7e, 0x07, 0x7e, 0x07]));
+    rows.stream("broken by 7e 09 after a unit", cycled(size, &[0x7e, 0x07, 0x41, 0x7e, 0x09]));
+    rows.stream("runts, 7e 07 7e 08", cycled(size, &[0x7e, 0x07, 0x7e, 0x08]));
+    rows.stream("runts of one unit and noise", cycled(size, &[0x7e, 0x07, 0x41, 0x7e, 0x08, 0x41]));
+    rows.stream("wrong checks of six", cycled(size, &[0xff, 0x7e, 0x07, 1, 2, 3, 4, 5, 6, 0x7e, 0x08]));
+    rows.stream("empty pings", frames_of(size, vec![]));
+    rows.stream("random empty pings", move || encoded(size, 0, 0));
+    rows.stream("frames of 250 times 7e", frames_of(size, vec![0x7e; 250]));
+    rows.stream("frames of 41 7e by turns", frames_of(size, [0x41, 0x7e].repeat(125)));
+    rows.stream("frames of 41 41 41 a5 by turns", frames_of(size, [0x41, 0x41, 0x41, 0xa5].repeat(62)));
+    rows.stream("random of 00 41", random_of(size, &[0x00, 0x41]));
+    rows.stream("random of 00 41 7e", random_of(size, &[0x00, 0x41, 0x7e]));
+    rows.stream("random of 7e 07", random_of(size, &[0x7e, 0x07]));
+    rows.stream("random of 7e 07 08", random_of(size, &[0x7e, 0x07, 0x08]));
+    rows.stream("random of 7e 07 08 00 01 06 ff 41 24", random_of(size, &[0x7e, 0x07, 0x08, 0x00, 0x01, 0x06, 0xff, 0x41, 0x24]));
+    rows.stream("runs of 1 to 3 of 00 41 7e 07 08", runs_of(size, 3, &[0x00, 0x41, 0x7e, 0x07, 0x08]));
+    rows.stream("runs of 1 to 17 of 00 41", runs_of(size, 17, &[0x00, 0x41]));
+    rows.stream("runs of 1 to 17 of 00 41 7e 07", runs_of(size, 17, &[0x00, 0x41, 0x7e, 0x07]));
+    rows.stream("a capture damaged all over", move || {
+        let mut rng = Rng::of(2, "damage");
+        make::capture(1, size).iter().map(|b| if rng.one_in(12) { rng.pick(&make::INTERESTING) } else { *b }).collect()
     });
     rows
 }
@@ -345,12 +446,19 @@ fn main() {
     let number = |i: usize, n: usize| words.get(i).map_or(n, |w| w.parse().expect("race [ROUNDS [MIB [NAME]]]"));
     let (rounds, size) = (number(0, 21), number(1, 16) << 20);
     println!("{rounds} rounds by turns; {} MiB a row; ns a byte, then MB/s at the best; below 1 in the last two columns ours is faster", size >> 20);
-    println!("| row | Rust best | median | MB/s | ours best | median | MB/s | best/best | median/median |");
-    println!("|---|---|---|---|---|---|---|---|---|");
-    for (name, row) in rows(size).0 {
-        if words.get(2).map_or(true, |part| name.contains(part.as_str())) {
-            race(name, row(), rounds);
+    for (group, rows) in [("typical", typical(size)), ("bad days", bad_days(size))] {
+        println!("| {group} | Rust best | median | MB/s | ours best | median | MB/s | best/best | median/median |");
+        println!("|---|---|---|---|---|---|---|---|---|");
+        let mut worst = (0.0, String::new());
+        for (name, row) in rows.0 {
+            if words.get(2).map_or(true, |part| name.contains(part.as_str())) {
+                let ratio = race(&name, row(), rounds);
+                if worst.0 < ratio {
+                    worst = (ratio, name);
+                }
+            }
         }
+        println!("worst of {group}: {:.2}, {}", worst.0, worst.1);
     }
 }
 

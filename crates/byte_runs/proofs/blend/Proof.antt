@@ -1,6 +1,6 @@
 -- `byte_runs::blend` lays the bytes before the first mark: the word that is there keeps its other bytes. Assumes nothing.
 use Prim.Native.Nat.{ℕ, _+_, _-_, _≤_, _<_}
-use mathlib.Core.Path.{_≡_, subst}
+use mathlib.Core.Path.{subst}
 use native.Mathlib.Omega.{arith}
 use borrow.Author.Needs.{needs}
 use Rattle.laws.specs.Bytes.{Bytes}
@@ -40,8 +40,8 @@ part-put-word-end c = search needs
 put-word-requires : tie.Need-put-word-requires
 put-word-requires c κs = search needs
 
-filled-requires : tie.Need-filled-requires
-filled-requires c κs = search needs
+first-requires : tie.Need-first-requires
+first-requires c κs = search needs
 
 same-length : tie.Need-same-length
 same-length c = search needs
@@ -56,9 +56,9 @@ returns c =
     let few : lead p bs < 8 = omega (arith, lead-lt p bs some, q .eight) in
     let m = below .ensures p bs e in
     let word = c .before .before .before .before .before .word in
-    let x = c .filled .ensures (lead p bs) few m in
+    let x = c .first .ensures p bs (q .eight) e in
     let y = c .before .before .before .put-word in
-    (x, blend-back (a .d .now) (a .l) p bs (a .w) (below .result) (word .result) (a .l + 8 - a .l) (c .filled .result) (y .last .0) known (search needs) q few m (omega arith) (word .ensures) (y .ensures) x)
+    (x, blend-back (a .d .now) (a .l) p bs (a .w) (below .result) (word .result) (a .l + 8 - a .l) (c .first .result) (y .last .0) known (search needs) q few m (omega arith) (word .ensures) (y .ensures) x)
 
 pub blend-spec : {M : Type 1} → statement M
 blend-spec =
@@ -74,6 +74,6 @@ blend-spec =
     part-put-word-start
     part-put-word-end
     put-word-requires
-    filled-requires
+    first-requires
     same-length
     returns)

@@ -3,12 +3,15 @@ use mathlib.Core.Path.{_≡_, refl, sym, _∙_}
 use Prim.Native.Nat.{_-_}
 use native.Mathlib.Omega.{arith}
 use lib.ListN.{length}
-use borrow.Author.Needs.{needs}
+use lib.Dec.{ltb}
+use borrow.Author.Tests.{ltb-true, ltb-false}
+use Rattle.laws.proofs.Cases.{by}
 use Rattle.crc.specs.Crc.{crcOf}
 use Rattle.link_receive.specs.Step.{freshOf, rulesOf}
 use Rattle.link_receive.specs.Numbered.{talliesAt}
 use Rattle.link_feed.specs.Advance.{heldOf, wentOf}
-use Rattle.link_feed.proofs.Goings.{Going, going-ahead, going-onward, going-stops, going-ends}
+use Rattle.link_feed.proofs.Goings.{Going, going-led, going-onward, going-stops, going-ends}
+use borrow.Author.Needs.{needs}
 use Rattle.link_feed.proofs.feeding.advance.Statement.{statement}
 use Rattle.link_feed.proofs.feeding.advance.Tie as tie
 
@@ -23,19 +26,18 @@ loop-holds : tie.Need-loop-holds Inv-loop μ-loop
 unfolding rulesOf
 loop-holds c = (record { inside = search needs; within = search needs; sized = search needs; same = refl }, search needs)
 
-ahead-requires : tie.Need-ahead-requires Inv-loop μ-loop
+line-requires : tie.Need-line-requires Inv-loop μ-loop
 unfolding rulesOf
-ahead-requires c κs = (search needs, search needs, search needs)
+line-requires c κs = (c .before .before .loop .inv .0 .within, c .before .before .loop .inv .1, search needs)
 
 onward-requires : tie.Need-onward-requires Inv-loop μ-loop
 unfolding rulesOf
 onward-requires c κs =
-    let a = c .before .before .before .before .before .before .before .before .before .before .before .before .args in
-    let l = c .before .before .before .before .before .before .before .before .loop in
-    let h = c .before .before .before .before .before .ahead in
-    let next = h .last .1 .1 .0 in
-    let g = going-ahead crcOf (a .s .now) (a .stop) _ freshOf (l .state) (l .body) (l .len) (talliesAt (l .tallies)) (l .i) next (h .result) (l .inv .0) (h .ensures) (h .kept .1 .1 .0) in
-    (g .within, g .sized, l .inv .1, omega (arith, g .inside))
+    let a = c .before .before .before .before .before .before .before .before .before .before .before .args in
+    let l = c .before .before .before .before .before .before .before .loop in
+    let o = c .before .before .before .before .line in
+    let g = going-led crcOf (a .s .now) (a .stop) _ freshOf (l .state) (l .body) (l .len) (talliesAt (l .tallies)) (l .i) (o .result) (talliesAt (o .last .1 .1 .0)) (l .inv .0) (o .ensures) in
+    (g .within, g .sized, o .kept .1 .1 .0 ∙ l .inv .1, g .inside, o .ensures .ended)
 
 stops-requires : tie.Need-stops-requires Inv-loop μ-loop
 stops-requires c κs = search needs
@@ -48,33 +50,34 @@ same-length-2 c = search needs
 
 returns : tie.Need-returns Inv-loop μ-loop
 returns c =
-    let a = c .before .before .before .before .before .before .before .before .before .before .before .before .before .before .before .before .before .before .before .args in
-    let l = c .before .before .before .before .before .before .before .before .before .before .before .before .before .before .before .loop in
-    let h = c .before .before .before .before .before .before .before .before .before .before .before .before .ahead in
-    let next = h .last .1 .1 .0 in
-    let g = going-ahead crcOf (a .s .now) (a .stop) _ freshOf (l .state) (l .body) (l .len) (talliesAt (l .tallies)) (l .i) next (h .result) (l .inv .0) (h .ensures) (h .kept .1 .1 .0) in
-    let o = c .before .before .before .before .before .before .onward in
-    let r = heldOf (l .state) next (h .result .len) (l .tallies) in
-    let q = heldOf (o .result .state) (o .last .1 .1 .1 .0) (o .result .len) (o .last .1 .1 .0) in
-    going-stops crcOf (a .s .now) (a .stop) _ r (h .result .at) g q (o .result .answer) (o .result .at) (o .ensures) (sym (c .before .stops .ensures) ∙ c .if2 .taken)
+    let a = c .before .before .before .before .before .before .before .before .before .before .before .before .before .before .before .before .before .before .args in
+    let l = c .before .before .before .before .before .before .before .before .before .before .before .before .before .before .loop in
+    let o = c .before .before .before .before .before .before .before .before .before .before .before .line in
+    let x = c .before .before .before .before .before .before .onward in
+    let g = going-led crcOf (a .s .now) (a .stop) _ freshOf (l .state) (l .body) (l .len) (talliesAt (l .tallies)) (l .i) (o .result) (talliesAt (o .last .1 .1 .0)) (l .inv .0) (o .ensures) in
+    let r = heldOf (o .result .state) (l .body) (o .result .len) (o .last .1 .1 .0) in
+    let q = heldOf (x .result .state) (x .last .1 .1 .1 .0) (x .result .len) (x .last .1 .1 .0) in
+    going-stops crcOf (a .s .now) (a .stop) _ r (o .result .at) g q (x .result .answer) (x .result .at) (x .ensures) (sym (c .before .stops .ensures) ∙ c .if1 .taken)
 
 loop-less : tie.Need-loop-less Inv-loop μ-loop
 loop-less c =
-    let h = c .before .before .before .before .before .before .before .before .before .before .before .before .ahead in
-    let o = c .before .before .before .before .before .before .onward in
-    omega (arith, o .ensures .further, o .ensures .inside, h .ensures .further)
+    let o = c .before .before .before .before .before .before .before .before .before .before .before .line in
+    let x = c .before .before .before .before .before .before .onward in
+    let n = length (c .before .before .before .before .before .before .before .before .before .before .before .before .before .before .before .before .before .before .args .s .now) in
+    by (ltb (o .result .at) n)
+    (λ e. omega (arith, o .ensures .further, x .ensures .further (ltb-true (o .result .at) n e), x .ensures .inside))
+    (λ e. omega (arith, c .before .before .before .before .before .before .before .before .before .before .before .before .before .loop-test .taken, ltb-false (o .result .at) n e, x .ensures .least, x .ensures .inside))
 
 loop-again : tie.Need-loop-again Inv-loop μ-loop
 loop-again c =
-    let a = c .before .before .before .before .before .before .before .before .before .before .before .before .before .before .before .before .before .before .before .args in
-    let l = c .before .before .before .before .before .before .before .before .before .before .before .before .before .before .before .loop in
-    let h = c .before .before .before .before .before .before .before .before .before .before .before .before .ahead in
-    let next = h .last .1 .1 .0 in
-    let g = going-ahead crcOf (a .s .now) (a .stop) _ freshOf (l .state) (l .body) (l .len) (talliesAt (l .tallies)) (l .i) next (h .result) (l .inv .0) (h .ensures) (h .kept .1 .1 .0) in
-    let o = c .before .before .before .before .before .before .onward in
-    let r = heldOf (l .state) next (h .result .len) (l .tallies) in
-    let q = heldOf (o .result .state) (o .last .1 .1 .1 .0) (o .result .len) (o .last .1 .1 .0) in
-    (going-onward crcOf (a .s .now) (a .stop) _ r (h .result .at) g q (o .result .answer) (o .result .at) (o .ensures) (sym (c .before .stops .ensures) ∙ c .if2 .left) (o .kept .1 .1 .1 .0), o .kept .1 .1 .0 ∙ l .inv .1)
+    let a = c .before .before .before .before .before .before .before .before .before .before .before .before .before .before .before .before .before .before .args in
+    let l = c .before .before .before .before .before .before .before .before .before .before .before .before .before .before .loop in
+    let o = c .before .before .before .before .before .before .before .before .before .before .before .line in
+    let x = c .before .before .before .before .before .before .onward in
+    let g = going-led crcOf (a .s .now) (a .stop) _ freshOf (l .state) (l .body) (l .len) (talliesAt (l .tallies)) (l .i) (o .result) (talliesAt (o .last .1 .1 .0)) (l .inv .0) (o .ensures) in
+    let r = heldOf (o .result .state) (l .body) (o .result .len) (o .last .1 .1 .0) in
+    let q = heldOf (x .result .state) (x .last .1 .1 .1 .0) (x .result .len) (x .last .1 .1 .0) in
+    (going-onward crcOf (a .s .now) (a .stop) _ r (o .result .at) g q (x .result .answer) (x .result .at) (x .ensures) (sym (c .before .stops .ensures) ∙ c .if1 .left) (x .kept .1 .1 .1 .0), x .kept .1 .1 .0 ∙ o .kept .1 .1 .0 ∙ l .inv .1)
 
 same-length-3 : tie.Need-same-length-3 Inv-loop μ-loop
 same-length-3 c = search needs
@@ -88,21 +91,6 @@ returns-2 c =
     let l = c .before .loop in
     going-ends crcOf (a .s .now) (a .stop) _ (heldOf (l .state) (l .body) (l .len) (l .tallies)) (l .i) (l .inv .0) (search needs)
 
-same-length-5 : tie.Need-same-length-5 Inv-loop μ-loop
-same-length-5 c = search needs
-
-same-length-6 : tie.Need-same-length-6 Inv-loop μ-loop
-same-length-6 c = search needs
-
-returns-3 : tie.Need-returns-3 Inv-loop μ-loop
-returns-3 c =
-    let a = c .before .before .before .before .before .before .before .before .before .before .args in
-    let l = c .before .before .before .before .before .before .loop in
-    let h = c .before .before .before .ahead in
-    let next = h .last .1 .1 .0 in
-    let g = going-ahead crcOf (a .s .now) (a .stop) _ freshOf (l .state) (l .body) (l .len) (talliesAt (l .tallies)) (l .i) next (h .result) (l .inv .0) (h .ensures) (h .kept .1 .1 .0) in
-    going-ends crcOf (a .s .now) (a .stop) _ (heldOf (l .state) next (h .result .len) (l .tallies)) (h .result .at) g (omega arith)
-
 pub advance-spec : {M : Type 1} → statement M
 advance-spec =
     tie.close
@@ -110,7 +98,7 @@ advance-spec =
     Inv-loop
     μ-loop
     loop-holds
-    ahead-requires
+    line-requires
     onward-requires
     stops-requires
     same-length
@@ -120,7 +108,4 @@ advance-spec =
     loop-again
     same-length-3
     same-length-4
-    returns-2
-    same-length-5
-    same-length-6
-    returns-3)
+    returns-2)

@@ -32,6 +32,7 @@ fn main() {
     if part("link") {
         link::exhaustive(&mut run);
         link::runs(&mut run);
+        link::short_runs(&mut run);
         link::limits(&mut run);
         link::random(&mut run);
         link::made_up(&mut run);

@@ -157,6 +157,61 @@ pub fn runs(run: &mut Run) {
     run.done(name, n);
 }
 
+/// Short runs of units of one sort: where the proved side goes from byte to byte and where it goes by words differ by a byte or two.
+pub fn short_runs(run: &mut Run) {
+    const MOST: usize = 17;
+    let sorts: [&[u8]; 11] = [
+        &[0x00],
+        &[0xff],
+        &[0x41],
+        &[0x07],
+        &[0x08],
+        &[0x7e, 0x7e],
+        &[0x7e, 0x01],
+        &[0x7e, 0x09],
+        &[0x7e, 0x07],
+        &[0x7e, 0x08],
+        &[0x41, 0x00],
+    ];
+    let begins: Vec<Vec<u8>> = beginnings().into_iter().chain([vec![]]).collect();
+    let name = "receiver: runs of 1 to 17 units of each of 11 sorts in each of 17 states, closed behind, whole and at every cut";
+    let mut n = 0;
+    for beginning in &begins {
+        for sort in sorts {
+            for len in 1..=MOST {
+                let mut stream = beginning.clone();
+                stream.extend(sort.repeat(len));
+                stream.extend([0x41, 0x7e, 0x08, 0x7e, 0x07, 0x7e, 0x08]);
+                for cut in beginning.len()..=stream.len() {
+                    hold(run, name, &stream, &[cut], &[]);
+                    n += 1;
+                }
+            }
+        }
+    }
+    run.done(name, n);
+
+    let name = "receiver: a run of 1 to 17 units of one sort behind one of 1 to 17 of another, for every two sorts in each of 17 states";
+    let mut rng = run.part("short runs");
+    let mut n = 0;
+    for beginning in &begins {
+        for first in sorts {
+            for second in sorts {
+                for len in 1..=MOST {
+                    let mut stream = beginning.clone();
+                    stream.extend(first.repeat(len));
+                    stream.extend(second.repeat(rng.within(1, MOST)));
+                    stream.extend(first.repeat(rng.within(1, 3)));
+                    let cuts = if rng.one_in(2) { Vec::new() } else { vec![rng.below(stream.len() + 1)] };
+                    hold(run, name, &stream, &cuts, &[]);
+                    n += 1;
+                }
+            }
+        }
+    }
+    run.done(name, n);
+}
+
 pub fn limits(run: &mut Run) {
     let name = "receiver: bodies of every number of units to 270, the last raw and escaped, closed, broken, overlong";
     let mut rng = run.part("limits");
