@@ -2,7 +2,7 @@
 use mathlib.Core.Path.{_≡_, refl, sym, ap, ap₂, _∙_, subst}
 use mathlib.Core.List.{List, [], _∷_, _++_}
 use Prim.Native.Nat.{ℕ, zero, suc, _+_, _-_, _*_, _/_, _%_, _^_, _<_, _≤_}
-use native.Mathlib.Nat.{zero-lt-suc, add-zero, zero-add, suc-add, add-suc, add-comm, add-assoc, mul-comm, mul-assoc, add-mul, suc-mul, mul-one, mod-eq-of-lt}
+use native.Mathlib.Nat.{zero-lt-suc, add-zero, zero-add, suc-add, add-suc, add-comm, add-assoc, mul-comm, mul-assoc, add-mul, suc-mul, mul-one, mod-eq-of-lt, div-eq-of-lt}
 use native.Mathlib.Omega.{arith}
 use lib.Pow.{pow-add, pow-mono, high}
 use lib.Bits.{bitXor, xor-comm, xor-zero-l, xor-zero-r, xor-shifted, xor-lt}
@@ -171,6 +171,13 @@ module _ (b : List ℕ) (hb : Bytes b) (d m c v w : ℕ) (e : d + m ≡ 4) (en :
       ∙ ap (crcBits (n * 8)) (mod-eq-of-lt h)
       ∙ sym (crcFrom-leAt b hb 0 0 n c (omega arith))
       ∙ ap (crcFrom c) (ap (λ (z : ℕ). take z b) en ∙ take-length b)
+
+-- just four bytes: `crc_four` cites this
+pub crcFrom-half : (b : List ℕ) → Bytes b → (c v : ℕ) → length b ≡ 4 → c < 2 ^ 16 → v ≡ leAt b 0 0 4 → v < 2 ^ 32 → crcBits 64 (bitXor c v * 2 ^ 32 % 2 ^ 64) ≡ crcFrom c b
+crcFrom-half b hb c v n hc ev hv =
+    let none : v / 2 ^ (4 * 8) * 2 ^ 32 % 2 ^ 64 ≡ 0 = ap (λ (y : ℕ). y * 2 ^ 32 % 2 ^ 64) (div-eq-of-lt hv) in
+    ap (λ (y : ℕ). crcBits 64 (y * 2 ^ 32 % 2 ^ 64)) (sym (xor-zero-r (bitXor c v)) ∙ ap (bitXor (bitXor c v)) (sym none))
+    ∙ crcFrom-few b hb 0 4 c v v (omega arith) (sym n) hc ev ev
 
 -- a turn of `crc_words`
 pub crcFrom-turn : (b : List ℕ) → Bytes b → (i c x f w : ℕ) → i + 8 ≤ length b → crcBits 64 x ≡ crcFrom c (take i b) → crcBits 64 f ≡ crcBits 128 x → w ≡ leAt b i 0 8 → crcBits 64 (bitXor w f) ≡ crcFrom c (take (i + 8) b)

@@ -83,6 +83,14 @@ fn crc_few(start: u64, b: &[u8]) -> u64
     settle((start ^ half_at(b, 0) ^ (upper << 32)) << high)
 }
 
+// The check of just four bytes, as of a frame with no payload: of `settle` the lower half of the word asks for nothing.
+fn crc_four(start: u64, b: &[u8]) -> u64
+    requires { ⌜ (start < 2 ^ 16) × (length (now b) ≡ 4) ⌝ }
+    ensures { λ r. ⌜ r ≡ crcFrom start (now (b .entry)) ⌝ }
+{
+    settle((start ^ half_at(b, 0)) << 32)
+}
+
 // The check of eight bytes or more, a word at a time.
 fn crc_words(start: u64, b: &[u8]) -> u64
     requires { ⌜ 8 ≤ length (now b) ⌝ }
@@ -132,6 +140,9 @@ fn crc_wide(start: u64, b: &[u8]) -> u64
     requires { ⌜ (start < 2 ^ 16) × (4 ≤ length (now b)) ⌝ }
     ensures { λ r. ⌜ r ≡ crcFrom start (now (b .entry)) ⌝ }
 {
+    if b.len() == 4 {
+        return crc_four(start, b);
+    }
     if b.len() < 8 {
         return crc_few(start, b);
     }

@@ -36,11 +36,11 @@ takenBy answer.Nothing = 1
 takenBy (answer.Frame address t n) = 1
 takenBy answer.Refused = 0
 
--- the bytes taken, and of a frame the 16 bits of its address and of its type and the length of its payload
-abbrev pub foundOf : ℕ → Answer → List ℕ
-foundOf taken answer.Nothing = taken ∷ 0 ∷ 0 ∷ 0 ∷ []
-foundOf taken (answer.Frame address t n) = taken ∷ numbered (numberHanded address) ∷ t .0 ∷ n ∷ []
-foundOf taken answer.Refused = taken ∷ 0 ∷ 0 ∷ 0 ∷ []
+-- an answer, and of a frame the 16 bits of its address and of its type and the length of its payload
+abbrev pub foundOf : Answer → List ℕ
+foundOf answer.Nothing = told answer.Nothing ∷ 0 ∷ 0 ∷ 0 ∷ []
+foundOf (answer.Frame address t n) = told (answer.Frame address t n) ∷ numbered (numberHanded address) ∷ t .0 ∷ n ∷ []
+foundOf answer.Refused = told answer.Refused ∷ 0 ∷ 0 ∷ 0 ∷ []
 
 -- at the receiver that ten numbers and a body say, what comes of a byte ..
 abbrev pub pushedAt : List ℕ → List ℕ → ℕ → Stepped

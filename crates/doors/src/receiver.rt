@@ -24,27 +24,27 @@ fn told_by(a: Answer) -> u64
     }
 }
 
-// How many bytes were taken, and of a frame the 16 bits of its address and of its type and the length of its payload.
-fn found_by(taken: u64, a: Answer) -> [u64; 4]
-    ensures { λ r. ⌜ r ≡ foundOf taken a ⌝ }
+// An answer as one number, and of a frame the 16 bits of its address and of its type and the length of its payload.
+fn found_by(a: Answer) -> [u64; 4]
+    ensures { λ r. ⌜ r ≡ foundOf a ⌝ }
 {
     match a {
-        Answer::Nothing => [taken, 0, 0, 0],
+        Answer::Nothing => [0, 0, 0, 0],
         Answer::Frame {
             address,
             frame_type,
             len,
         } => [
-            taken,
+            1,
             crate::number_of(address),
             frame_type.0 as u64,
             len as u64,
         ],
-        Answer::Refused => [taken, 0, 0, 0],
+        Answer::Refused => [12 << 32, 0, 0, 0],
     }
 }
 
-// One byte.
+// One byte. What it hands out is left in `found`; how many bytes were taken is given back, by which a caller goes on in its stream.
 #[no_mangle]
 pub extern "C" fn johkkesir_push_u8(
     numbers: &mut [u64; Receiver::NUMBERS],
@@ -52,16 +52,16 @@ pub extern "C" fn johkkesir_push_u8(
     found: &mut [u64; 4],
     b: u8,
 ) -> u64
-    ensures { λ r. ⌜ r ≡ told (pushedAt (now (numbers .entry)) (now (body .entry)) b .answer) ⌝ }
+    ensures { λ r. ⌜ r ≡ takenBy (pushedAt (now (numbers .entry)) (now (body .entry)) b .answer) ⌝ }
     ensures { λ _. ⌜ now (numbers .exit) ≡ numbersLeft (now (numbers .entry)) (pushedAt (now (numbers .entry)) (now (body .entry)) b .next) ⌝ }
     ensures { λ _. ⌜ now (body .exit) ≡ pushedAt (now (numbers .entry)) (now (body .entry)) b .next .body ⌝ }
-    ensures { λ _. ⌜ now (found .exit) ≡ foundOf (takenBy (pushedAt (now (numbers .entry)) (now (body .entry)) b .answer)) (pushedAt (now (numbers .entry)) (now (body .entry)) b .answer) ⌝ }
+    ensures { λ _. ⌜ now (found .exit) ≡ foundOf (pushedAt (now (numbers .entry)) (now (body .entry)) b .answer) ⌝ }
 {
     let was = *numbers;
     if 256 < was[1] {
-        let none = [0u64; 4];
-        *found = none;
-        return 12 << 32;
+        let news = found_by(Answer::Refused);
+        *found = news;
+        return 0;
     }
     let held = *body;
     let r = receiver_at(was, held);
@@ -71,11 +71,11 @@ pub extern "C" fn johkkesir_push_u8(
     let units = next.body;
     let put = numbers_of(next);
     let after = put.numbers;
-    let news = found_by(1, answer);
+    let news = found_by(answer);
     *numbers = after;
     *body = units;
     *found = news;
-    told_by(answer)
+    1
 }
 
 // A slice, up to the first frame handed out or its end.
@@ -86,16 +86,16 @@ pub extern "C" fn johkkesir_feed(
     found: &mut [u64; 4],
     s: &[u8],
 ) -> u64
-    ensures { λ r. ⌜ r ≡ told (fedAt (now (numbers .entry)) (now (body .entry)) (now (s .entry)) .answer) ⌝ }
+    ensures { λ r. ⌜ r ≡ fedAt (now (numbers .entry)) (now (body .entry)) (now (s .entry)) .taken ⌝ }
     ensures { λ _. ⌜ now (numbers .exit) ≡ numbersFed (now (numbers .entry)) (fedAt (now (numbers .entry)) (now (body .entry)) (now (s .entry))) ⌝ }
     ensures { λ _. ⌜ now (body .exit) ≡ fedAt (now (numbers .entry)) (now (body .entry)) (now (s .entry)) .next .body ⌝ }
-    ensures { λ _. ⌜ now (found .exit) ≡ foundOf (fedAt (now (numbers .entry)) (now (body .entry)) (now (s .entry)) .taken) (fedAt (now (numbers .entry)) (now (body .entry)) (now (s .entry)) .answer) ⌝ }
+    ensures { λ _. ⌜ now (found .exit) ≡ foundOf (fedAt (now (numbers .entry)) (now (body .entry)) (now (s .entry)) .answer) ⌝ }
 {
     let f = link_feed::lending::feed_in(numbers, body, s);
     let answer = f.answer;
-    let news = found_by(f.taken as u64, answer);
+    let news = found_by(answer);
     *found = news;
-    told_by(answer)
+    f.taken as u64
 }
 
 // The eight tallies to 0.

@@ -54,9 +54,11 @@ talliesAt-noise : (l : List ℕ) (x : ℕ) → length l ≡ 10 → talliesAt (se
 unfolding talliesAt
 talliesAt-noise l x h = rw (ten l h)
 
-pub talliesAt-noised : (l : List ℕ) (n : ℕ) → length l ≡ 10 → 1 ≤ n → talliesAt (set l 9 ((getD l 9 0 + n) % 2 ^ 64)) ≡ noised n (talliesAt l)
+pub talliesAt-noised : (l : List ℕ) (n : ℕ) → length l ≡ 10 → getD l 9 0 < 2 ^ 64 → talliesAt (set l 9 ((getD l 9 0 + n) % 2 ^ 64)) ≡ noised n (talliesAt l)
 unfolding talliesAt
-talliesAt-noised l zero h g = absurd (omega arith)
+talliesAt-noised l zero h g =
+    let e : (getD l 9 0 + 0) % 2 ^ 64 ≡ getD l 9 0 = omega arith in
+    talliesAt-noise l ((getD l 9 0 + 0) % 2 ^ 64) h ∙ ap (withNoise (talliesAt l)) e
 talliesAt-noised l (suc n) h g = talliesAt-noise l ((getD l 9 0 + suc n) % 2 ^ 64) h ∙ sym (noised-sum n (talliesAt l))
 
 -- state and length written before them

@@ -170,6 +170,15 @@ module _ (check : List ℕ → ℕ) (o : Receiver) (s : List ℕ) where
         same = λ body len t l. feedFrom-more check (madeOf o Idle body len t) (madeOf o Idle body len t) s i h (stepOf-made check o Idle body len t (getD s i 0) (To Idle) l (turnOf-idle (rulesOf o) len (getD s i 0) e));
       }
 
+  -- three of them
+  pub passed-three : (i : ℕ) → i + 3 ≤ length s → isOf sort.Idle (getD s i 0) ≡ true → isOf sort.Idle (getD s (i + 1) 0) ≡ true → isOf sort.Idle (getD s (i + 2) 0) ≡ true → Passed check o s false i (heard false 0 (i + 3))
+  passed-three i h e f g =
+      let second : i + 1 + 1 ≡ i + 2 = omega arith in
+      let third : i + 2 + 1 ≡ i + 3 = omega arith in
+      passed-then false i (heard false 0 (i + 2)) (heard false 0 (i + 3))
+      (passed-then false i (heard false 0 (i + 1)) (heard false 0 (i + 2)) (passed-one i (omega arith) e) (subst (λ (m : ℕ). Passed check o s false (i + 1) (heard false 0 m)) second (passed-one (i + 1) (omega arith) f)))
+      (subst (λ (m : ℕ). Passed check o s false (i + 2) (heard false 0 m)) third (passed-one (i + 2) (omega arith) g))
+
   pub passed-lull : (i m : ℕ) → i ≤ length s → m ≡ lead (isOf sort.Idle) (drop i s) → Passed check o s false i (heard false 0 (i + m))
   passed-lull i m h e =
       let inside : i + m ≤ length s = run-inside (isOf sort.Idle) s i m h e in

@@ -2,8 +2,9 @@
 ghost use mathlib.Core.Path.{_≡_};
 ghost use mathlib.Core.Bool.{true};
 ghost use Prim.Native.Nat.{_+_, _≤_, _<_};
-ghost use lib.ListN.{length};
+ghost use lib.ListN.{length, getD};
 ghost use Rattle.crc.specs.Crc.{crcOf};
+ghost use Rattle.byte_runs.specs.Runs.{isOf};
 ghost use Rattle.link_receive.specs.Numbered.{numberCount, talliesAt};
 ghost use Rattle.link_receive.specs.Step.{freshOf};
 ghost use Rattle.link_feed.specs.Advance.{limit, lineOf, noised, beginsOf, heldAfter, Stands, Awaits, Passed, Led};
@@ -119,7 +120,7 @@ fn quiet(noisy0: bool, s: &[u8], i0: usize) -> Heard
     while i < s.len() {
         let h = words(noisy, s, i);
         let from = h.at;
-        let end = end_of(s.len(), from, 16);
+        let end = end_of(s.len(), from, 8);
         let q = few(h.noisy, s, from, end);
         noisy = q.noisy;
         count = count + h.count + q.count;
@@ -135,7 +136,24 @@ fn quiet(noisy0: bool, s: &[u8], i0: usize) -> Heard
     }
 }
 
-// The place behind idle bytes where the line is idle. Before most frames there is one byte, or a few.
+// Whether just two idle bytes, and then a 7e, stand behind a place: with the byte there the start of a frame to a gateway.
+fn three(s: &[u8], i: usize) -> bool
+    requires { ⌜ i < length (now s) ⌝ }
+    ensures { λ r. ⌜ (r ≡ true → (i + 3 ≤ length (now (s .entry))) × (isOf Sort.Idle (getD (now (s .entry)) (i + 1) 0) ≡ true) × (isOf Sort.Idle (getD (now (s .entry)) (i + 2) 0) ≡ true)) ⌝ }
+{
+    if s.len() - i < 4 {
+        return false;
+    }
+    if s[i + 3] != 0x7e {
+        return false;
+    }
+    if !byte_runs::is(Sort::Idle, s[i + 1]) {
+        return false;
+    }
+    byte_runs::is(Sort::Idle, s[i + 2])
+}
+
+// The place behind idle bytes where the line is idle. Before most frames there is one byte, or there are three.
 fn lull(noisy: bool, s: &[u8], i: usize) -> usize
     requires { ⌜ i < length (now s) ⌝ }
     ensures { λ r. ⌜ Passed crcOf freshOf (now (s .entry)) noisy i (record { noisy = noisy; count = 0; at = r }) ⌝ }
@@ -151,6 +169,9 @@ fn lull(noisy: bool, s: &[u8], i: usize) -> usize
     }
     if s[i + 1] == 0x7e {
         return i + 1;
+    }
+    if three(s, i) {
+        return i + 3;
     }
     i + byte_runs::run(Sort::Idle, s, i)
 }
@@ -176,9 +197,6 @@ fn add_noise(tallies: &mut [u64], count: usize)
     requires { ⌜ length (now tallies) ≡ numberCount ⌝ }
     ensures { λ _. ⌜ talliesAt (now (tallies .exit)) ≡ noised count (talliesAt (now (tallies .entry))) ⌝ }
 {
-    if count == 0 {
-        return;
-    }
     tallies[9] = std::num::wrapping_add_u64(tallies[9], count as u64);
 }
 

@@ -68,7 +68,7 @@ pub fn tail(s: &[u8], i0: usize) -> usize
     ensures { λ r. ⌜ Skipped crcOf freshOf (now (s .entry)) i0 r ⌝ }
 {
     let mut i = i0;
-    let mut pace = 2;
+    let mut pace = 1;
     while i < s.len() {
         let end = end_of(s.len(), i, pace);
         let from = few(s, i, end);
@@ -76,7 +76,7 @@ pub fn tail(s: &[u8], i0: usize) -> usize
             return from;
         }
         i = leap(s, from);
-        pace = if i - from < 8 { 64 } else { 2 };
+        pace = if i - from < 4 { 32 } else { 1 };
     }
     i
 }

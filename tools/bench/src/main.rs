@@ -159,10 +159,11 @@ fn our_frames(s: &[u8]) -> u64 {
     let mut sum = 0;
     let mut at = 0;
     while at < s.len() {
-        if r.feed(&s[at..]) == Ok(1) {
+        let (answer, taken) = r.feed(&s[at..]);
+        if answer == Ok(1) {
             sum += looked(&r.body[4..4 + r.found[3] as usize]);
         }
-        at += r.found[0] as usize;
+        at += taken;
     }
     let p = &r.place;
     told(p[3], p[4], p[5], p[6], p[9]).wrapping_add(sum)
@@ -241,12 +242,13 @@ fn our_whole(s: &[u8]) -> u64 {
     let mut sum = 0;
     let mut at = 0;
     while at < s.len() {
-        if r.feed(&s[at..]) == Ok(1) {
+        let (answer, taken) = r.feed(&s[at..]);
+        if answer == Ok(1) {
             let address = r.found[1] as u16;
             let payload = &r.body[4..4 + r.found[3] as usize];
             sum += our_event(&mut t, address, r.found[2] as u16, payload);
         }
-        at += r.found[0] as usize;
+        at += taken;
     }
     let c = &t.counters;
     sum.wrapping_add(c[6]).wrapping_add(c[13] << 32)

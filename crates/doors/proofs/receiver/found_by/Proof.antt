@@ -13,8 +13,8 @@ enum-known-a c = search needs
 number-of-requires : tie.Need-number-of-requires
 number-of-requires c κs = search needs
 
-cast-t8 : tie.Need-cast-t8
-cast-t8 c = search needs
+cast-t7 : tie.Need-cast-t7
+cast-t7 c = search needs
 
 enum-told-2 : tie.Need-enum-told-2
 enum-told-2 c = search needs
@@ -35,7 +35,7 @@ found-by-spec =
     enum-told
     enum-known-a
     number-of-requires
-    cast-t8
+    cast-t7
     enum-told-2
     returns
     returns-2

@@ -10,14 +10,11 @@ feed-in-requires c κs = search needs
 found-by-requires : tie.Need-found-by-requires
 found-by-requires c κs = search needs
 
-told-by-requires : tie.Need-told-by-requires
-told-by-requires c κs = search needs
-
 returns : tie.Need-returns
 returns c =
-    let f = c .before .before .feed-in .ensures in
-    (rw (c .told-by .ensures, f .0), (f .1 .0, (f .1 .1, rw (c .before .found-by .ensures, f .0))))
+    let f = c .before .feed-in .ensures in
+    (rw (f .0), (f .1 .0, (f .1 .1, rw (c .found-by .ensures, f .0))))
 
 pub johkkesir-feed-spec : {M : Type 1} → statement M
 johkkesir-feed-spec =
-    tie.close (tie.spec feed-in-requires found-by-requires told-by-requires returns)
+    tie.close (tie.spec feed-in-requires found-by-requires returns)

@@ -24,12 +24,15 @@ taken-one answer.Refused n = absurd (n refl)
 array-read-if1 : tie.Need-array-read-if1
 array-read-if1 c = search needs
 
+found-by-requires : tie.Need-found-by-requires
+found-by-requires c κs = search needs
+
 returns : tie.Need-returns
 unfolding rulesOf
 returns c =
-    let a = c .before .before .args in
-    let o = stepOf-over crcOf (receiverAt (a .numbers .now) (a .body .now)) (a .b) (c .if1 .taken) in
-    (rw o, (rw (lt-ltb _ _ (c .if1 .taken)), (rw o, rw o)))
+    let a = c .before .before .before .args in
+    let o = stepOf-over crcOf (receiverAt (a .numbers .now) (a .body .now)) (a .b) (c .before .if1 .taken) in
+    (rw o, (rw (lt-ltb _ _ (c .before .if1 .taken)), (rw o, rw (c .found-by .ensures, o))))
 
 receiver-at-requires : tie.Need-receiver-at-requires
 receiver-at-requires c κs = search needs
@@ -40,24 +43,21 @@ push-u8-requires c κs = search needs
 numbers-of-requires : tie.Need-numbers-of-requires
 numbers-of-requires c κs = search needs
 
-found-by-requires : tie.Need-found-by-requires
-found-by-requires c κs = search needs
-
-told-by-requires : tie.Need-told-by-requires
-told-by-requires c κs = search needs
+found-by-requires-2 : tie.Need-found-by-requires-2
+found-by-requires-2 c κs = search needs
 
 returns-2 : tie.Need-returns-2
 unfolding rulesOf
 returns-2 c =
-    let a = c .before .before .before .before .before .before .before .before .before .before .before .args in
+    let a = c .before .before .before .before .before .before .before .before .before .before .args in
     let q = receiverAt (a .numbers .now) (a .body .now) in
-    let f = c .before .before .before .before .before .before .push-u8 .ensures in
-    let r = c .before .before .before .before .before .before .before .receiver-at .ensures in
-    let within = c .before .before .before .before .before .before .before .before .before .if1 .left in
+    let f = c .before .before .before .before .before .push-u8 .ensures in
+    let r = c .before .before .before .before .before .before .receiver-at .ensures in
+    let within = c .before .before .before .before .before .before .before .before .if1 .left in
     let steady = stepOf-steady crcOf q (a .b) within in
-    let put = ap (λ (p : Numbers). p .numbers) (c .before .before .before .numbers-of .ensures) in (
-      rw (c .told-by .ensures, f, r),
-      (rw (put, f, r, le-ltb _ _ within) (numbersTold-within (stepOf crcOf q (a .b) .next) (steady .within)), (rw (f, r), rw (c .before .found-by .ensures, f, r, taken-one (stepOf crcOf q (a .b) .answer) (steady .answers)))),
+    let put = ap (λ (p : Numbers). p .numbers) (c .before .before .numbers-of .ensures) in (
+      rw (taken-one (stepOf crcOf q (a .b) .answer) (steady .answers)),
+      (rw (put, f, r, le-ltb _ _ within) (numbersTold-within (stepOf crcOf q (a .b) .next) (steady .within)), (rw (f, r), rw (c .found-by2 .ensures, f, r))),
     )
 
 pub johkkesir-push-u8-spec : {M : Type 1} → statement M
@@ -65,10 +65,10 @@ johkkesir-push-u8-spec =
     tie.close
     (tie.spec
     array-read-if1
+    found-by-requires
     returns
     receiver-at-requires
     push-u8-requires
     numbers-of-requires
-    found-by-requires
-    told-by-requires
+    found-by-requires-2
     returns-2)

@@ -1,14 +1,8 @@
 -- `link_feed::outside::add_noise` adds to the number that is the noise's. Assumes nothing.
-use mathlib.Core.Path.{_≡_, refl, sym, ap, _∙_}
-use native.Mathlib.Omega.{arith}
-use Rattle.link_feed.specs.Advance.{noised}
 use Rattle.link_feed.proofs.Lent.{talliesAt-noised}
 use borrow.Author.Needs.{needs}
 use Rattle.link_feed.proofs.outside.add_noise.Statement.{statement}
 use Rattle.link_feed.proofs.outside.add_noise.Tie as tie
-
-returns : tie.Need-returns
-returns c = rw (c .if1 .taken)
 
 slice-read-wrapping-add-u64 : tie.Need-slice-read-wrapping-add-u64
 slice-read-wrapping-add-u64 c = search needs
@@ -22,18 +16,17 @@ slice-write-tallies c = search needs
 same-length : tie.Need-same-length
 same-length c = search needs
 
-returns-2 : tie.Need-returns-2
-returns-2 c =
-    let a = c .before .before .before .before .args in
-    rw (c .wrapping-add-u64 .ensures) (talliesAt-noised (a .tallies .now) (a .count) (c .before .before .before .before .pre) (omega (arith, c .before .before .if1 .left)))
+returns : tie.Need-returns
+returns c =
+    let a = c .before .before .before .args in
+    rw (c .wrapping-add-u64 .ensures) (talliesAt-noised (a .tallies .now) (a .count) (c .before .before .before .pre) (c .before .before .slice-known .given 9 .fits))
 
 pub add-noise-spec : {M : Type 1} → statement M
 add-noise-spec =
     tie.close
     (tie.spec
-    returns
     slice-read-wrapping-add-u64
     wrapping-add-u64-requires
     slice-write-tallies
     same-length
-    returns-2)
+    returns)

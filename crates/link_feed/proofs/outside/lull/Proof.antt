@@ -1,4 +1,4 @@
--- `link_feed::outside::lull` goes over one idle byte, or all of a run. Assumes nothing.
+-- `link_feed::outside::lull` goes over one idle byte, over three, or over all of a run. Assumes nothing.
 use mathlib.Core.Path.{sym, ap, _∙_}
 use mathlib.Core.Bool.{false}
 use native.Mathlib.Omega.{arith}
@@ -8,7 +8,7 @@ use Rattle.byte_runs.specs.Runs.{isOf}
 use Rattle.byte_runs.specs.declared.Sort.the-variants as sort
 use Rattle.byte_runs.proofs.Laws.{run-inside}
 use Rattle.link_receive.specs.Step.{freshOf}
-use Rattle.link_feed.proofs.Passes.{passed-none, passed-one, passed-lull}
+use Rattle.link_feed.proofs.Passes.{passed-none, passed-one, passed-three, passed-lull}
 use borrow.Author.Needs.{needs}
 use Rattle.link_feed.proofs.outside.lull.Statement.{statement}
 use Rattle.link_feed.proofs.outside.lull.Tie as tie
@@ -45,17 +45,29 @@ returns-4 c =
     let a = c .before .before .before .before .before .before .before .before .args in
     rw (c .before .before .before .before .before .before .if1 .left) (passed-one crcOf freshOf (a .s .now) (a .i) (search needs) (sym (c .before .before .before .before .is .ensures) ∙ not-false _ (c .before .before .before .if2 .left)))
 
-run-requires : tie.Need-run-requires
-run-requires c κs = search needs
+three-requires : tie.Need-three-requires
+three-requires c κs = search needs
 
 add-result-2 : tie.Need-add-result-2
-add-result-2 c =
-    let a = c .before .before .before .before .before .before .before .before .before .args in omega (arith, run-inside (isOf sort.Idle) (a .s .now) (a .i) (c .run .result) (omega arith) (c .run .ensures))
+add-result-2 c = let t = c .before .three .ensures (c .if5 .taken) in omega (arith, t .0)
 
 returns-5 : tie.Need-returns-5
 returns-5 c =
-    let a = c .before .before .before .before .before .before .before .before .before .args in
-    rw (c .before .before .before .before .before .before .before .if1 .left) (passed-lull crcOf freshOf (a .s .now) (a .i) (c .run .result) (omega arith) (c .run .ensures))
+    let a = c .before .before .before .before .before .before .before .before .before .before .args in
+    let t = c .before .three .ensures (c .if5 .taken) in
+    rw (c .before .before .before .before .before .before .before .before .if1 .left) (passed-three crcOf freshOf (a .s .now) (a .i) (t .0) (sym (c .before .before .before .before .before .before .is .ensures) ∙ not-false _ (c .before .before .before .before .before .if2 .left)) (t .1) (t .2))
+
+run-requires : tie.Need-run-requires
+run-requires c κs = search needs
+
+add-result-3 : tie.Need-add-result-3
+add-result-3 c =
+    let a = c .before .before .before .before .before .before .before .before .before .before .before .args in omega (arith, run-inside (isOf sort.Idle) (a .s .now) (a .i) (c .run .result) (omega arith) (c .run .ensures))
+
+returns-6 : tie.Need-returns-6
+returns-6 c =
+    let a = c .before .before .before .before .before .before .before .before .before .before .before .args in
+    rw (c .before .before .before .before .before .before .before .before .before .if1 .left) (passed-lull crcOf freshOf (a .s .now) (a .i) (c .run .result) (omega arith) (c .run .ensures))
 
 pub lull-spec : {M : Type 1} → statement M
 lull-spec =
@@ -71,6 +83,9 @@ lull-spec =
     shared-slice-read-if4
     add-result
     returns-4
-    run-requires
+    three-requires
     add-result-2
-    returns-5)
+    returns-5
+    run-requires
+    add-result-3
+    returns-6)

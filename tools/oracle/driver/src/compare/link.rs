@@ -18,10 +18,11 @@ fn ours(stream: &[u8], cuts: &[usize], resets: &[usize]) -> Heard {
     }
     for end in places {
         while at < end {
-            if r.feed(&stream[at..end]).expect("a reached state is not refused") == 1 {
+            let (answer, taken) = r.feed(&stream[at..end]);
+            if answer.expect("a reached state is not refused") == 1 {
                 frames.push(r.frame());
             }
-            at += r.found[0] as usize;
+            at += taken;
         }
         if end > 0 && resets.contains(&end) {
             r.reset_counters().expect("a reached state is not refused");
@@ -35,7 +36,9 @@ fn stepped(stream: &[u8]) -> Heard {
     let mut r = doors::Receiver::new();
     let mut frames = Vec::new();
     for byte in stream {
-        if r.push_u8(*byte).expect("a reached state is not refused") == 1 {
+        let (answer, taken) = r.push_u8(*byte);
+        assert_eq!(taken, 1, "a step takes one byte");
+        if answer.expect("a reached state is not refused") == 1 {
             frames.push(r.frame());
         }
     }
@@ -344,10 +347,11 @@ pub fn made_up(run: &mut Run) {
         let mut frames = Vec::new();
         let mut at = 0;
         while at < stream.len() {
-            if r.feed(&stream[at..]).expect("a length within the limit") == 1 {
+            let (answer, taken) = r.feed(&stream[at..]);
+            if answer.expect("a length within the limit") == 1 {
                 frames.push(r.frame());
             }
-            at += r.found[0] as usize;
+            at += taken;
         }
         let heard = rust.heard();
         let moved: Vec<u64> = (2..10).map(|i| r.place[i].wrapping_sub(before[i])).collect();
@@ -359,7 +363,7 @@ pub fn made_up(run: &mut Run) {
         }
         let mut stepped = Vec::new();
         for byte in &stream {
-            if single.push_u8(*byte).expect("a length within the limit") == 1 {
+            if single.push_u8(*byte).0.expect("a length within the limit") == 1 {
                 stepped.push(single.frame());
             }
         }
@@ -377,8 +381,8 @@ pub fn made_up(run: &mut Run) {
                 let mut r = made(&mut rng, state);
                 r.place[1] = len;
                 let before = r.clone();
-                let answers = [r.push_u8(byte), r.feed(&[byte]), r.feed(&[]), r.reset_counters()];
-                if answers != [Err(12); 4] || (r.place, r.body) != (before.place, before.body) {
+                let answers = [r.push_u8(byte), r.feed(&[byte]), r.feed(&[]), (r.reset_counters(), 0)];
+                if answers != [(Err(12), 0); 4] || (r.place, r.body) != (before.place, before.body) {
                     run.differ(name, &format!("from {:?} at byte {byte:02x}: {answers:?}", before.place));
                 }
                 n += 4;

@@ -290,10 +290,11 @@ fn own_frames(stream: &[u8]) -> Vec<Plain> {
     let mut r = Receiver::new();
     let mut at = 0;
     while at < stream.len() {
-        if r.feed(&stream[at..]) == Ok(1) {
+        let (answer, taken) = r.feed(&stream[at..]);
+        if answer == Ok(1) {
             frames.push(r.frame());
         }
-        at += r.found[0] as usize;
+        at += taken;
     }
     frames
 }

@@ -10,7 +10,8 @@ extern "C" {
 }
 
 /// The receiver's state as it crosses a door: `place` is the state's number, the length and the eight tallies in the ledger's order;
-/// `found` is what a call tells besides its answer: bytes taken, and a frame's address, type and payload length.
+/// `found` is what a call finds: its answer (0, 1 for a frame, or a refusal), and a frame's address, type and payload length. A call gives how
+/// many bytes were taken.
 #[derive(Debug, Clone, Eq, PartialEq)]
 pub struct Receiver {
     pub place: [u64; 10],
@@ -29,14 +30,17 @@ impl Receiver {
         Receiver { place: [0; 10], body: [0; 256], found: [0; 4] }
     }
 
-    /// 1 for a frame, 0 for none, or a refusal.
-    pub fn push_u8(&mut self, byte: u8) -> Answer {
-        answer(unsafe { johkkesir_push_u8(&mut self.place, &mut self.body, &mut self.found, byte) })
+    /// 1 for a frame, 0 for none, or a refusal; and how many bytes were taken.
+    pub fn push_u8(&mut self, byte: u8) -> (Answer, usize) {
+        let taken = unsafe { johkkesir_push_u8(&mut self.place, &mut self.body, &mut self.found, byte) };
+        (answer(self.found[0]), taken as usize)
     }
 
-    /// Up to the first frame or the end; `found[0]` is how many bytes were taken.
-    pub fn feed(&mut self, s: &[u8]) -> Answer {
-        answer(unsafe { johkkesir_feed(&mut self.place, &mut self.body, &mut self.found, s.as_ptr(), s.len()) })
+    /// The same for a slice, up to the first frame or the end.
+    #[inline]
+    pub fn feed(&mut self, s: &[u8]) -> (Answer, usize) {
+        let taken = unsafe { johkkesir_feed(&mut self.place, &mut self.body, &mut self.found, s.as_ptr(), s.len()) };
+        (answer(self.found[0]), taken as usize)
     }
 
     pub fn reset_counters(&mut self) -> Answer {

@@ -37,6 +37,7 @@ extern "C" {
 /// A value, or the number of 01's table by which it is refused.
 pub type Answer = Result<u64, u64>;
 
+#[inline]
 fn answer(n: u64) -> Answer {
     if n < 1 << 32 {
         Ok(n)
