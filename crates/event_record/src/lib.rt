@@ -1,6 +1,6 @@
 // Event records, a house form: the record of each kind of event. Whether one is sound is told by crates/sound_record.
 ghost use mathlib.Core.Path.{_≡_};
-ghost use Prim.Native.Nat.{_+_, _/_, _%_, _≤_};
+ghost use Prim.Native.Nat.{_+_, _≤_};
 ghost use lib.ListN.{length};
 ghost use Rattle.laws.specs.Bytes.{laidOver};
 ghost use Rattle.sound_record.specs.Record.{written};
@@ -14,6 +14,8 @@ use sound_record::BODY_AT;
 use sound_record::VERSION;
 use sound_record::sound_body;
 use words::copy_in;
+use words::high;
+use words::low;
 
 // How many bytes of a record follow its length before the body: version, kind and gateway.
 const AHEAD: usize = 4;
@@ -30,20 +32,6 @@ pub enum Recorded {
     InvalidGateway,
     Unsound,
     NoRoom,
-}
-
-// The higher byte of a number.
-fn high(n: u16) -> u8
-    ensures { λ r. ⌜ r ≡ n / 256 ⌝ }
-{
-    (n / 256) as u8
-}
-
-// The lower byte of a number.
-fn low(n: u16) -> u8
-    ensures { λ r. ⌜ r ≡ n % 256 ⌝ }
-{
-    (n % 256) as u8
 }
 
 // Writes what stands before a body of `n` bytes.

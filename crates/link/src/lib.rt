@@ -1,7 +1,7 @@
 // The gateway link layer's frames (link.rs).
 ghost use mathlib.Core.Path.{_≡_};
 ghost use mathlib.Core.List.{_++_};
-ghost use Prim.Native.Nat.{_+_, _/_, _%_, _≤_};
+ghost use Prim.Native.Nat.{_+_, _≤_};
 ghost use lib.ListN.{length};
 ghost use Rattle.laws.specs.Bytes.{laidOver};
 ghost use Rattle.crc.specs.Crc.{crcOf};
@@ -11,6 +11,8 @@ use address::Address;
 use address::Numbered;
 use escaping::Escaped;
 use words::copy_in;
+use words::high;
+use words::low;
 
 // A link layer frame type.
 pub struct Type(pub u16);
@@ -62,18 +64,6 @@ pub enum Encoded {
     InvalidID,
     TooLong,
     NoRoom,
-}
-
-fn high(n: u16) -> u8
-    ensures { λ r. ⌜ r ≡ n / 256 ⌝ }
-{
-    (n / 256) as u8
-}
-
-fn low(n: u16) -> u8
-    ensures { λ r. ⌜ r ≡ n % 256 ⌝ }
-{
-    (n % 256) as u8
 }
 
 // Lays address, type, payload and their check over the start of `body`.

@@ -219,6 +219,10 @@ use Rattle.words.proofs.byte_at.Kinds as words·byte-at·kinds
 use Rattle.words.proofs.byte_at.Reads as words·byte-at·reads
 use Rattle.words.proofs.be16.Kinds as words·be16·kinds
 use Rattle.words.proofs.be16.Reads as words·be16·reads
+use Rattle.words.proofs.high.Kinds as words·high·kinds
+use Rattle.words.proofs.high.Reads as words·high·reads
+use Rattle.words.proofs.low.Kinds as words·low·kinds
+use Rattle.words.proofs.low.Reads as words·low·reads
 use Rattle.words.proofs.copy_in.Kinds as words·copy-in·kinds
 use Rattle.words.proofs.copy_in.Reads as words·copy-in·reads
 use Rattle.byte_runs.proofs.is.Kinds as byte-runs·is·kinds
@@ -544,6 +548,12 @@ words·byte-at κs a x y u v p q = (p ∙ sym q, refl)
 
 pub words·be16 : Determined 0 words·be16·kinds.ps words·be16·kinds.r words·be16·reads.Learnt
 words·be16 κs a x y u v p q = (p ∙ sym q, refl)
+
+pub words·high : Determined 0 words·high·kinds.ps words·high·kinds.r words·high·reads.Learnt
+words·high κs a x y u v p q = (p ∙ sym q, refl)
+
+pub words·low : Determined 0 words·low·kinds.ps words·low·kinds.r words·low·reads.Learnt
+words·low κs a x y u v p q = (p ∙ sym q, refl)
 
 pub words·copy-in : Determined 2 words·copy-in·kinds.ps words·copy-in·kinds.r words·copy-in·reads.Learnt
 words·copy-in κs a x y u v p q = (refl, ap (λ (z : List ℕ). (at-last (a .0) z, (a .1 .0, (a .1 .1 .0, tt)))) (p ∙ sym q))

@@ -1,7 +1,7 @@
 // Four or eight bytes at once as one number, the first byte lowest. A caller lends just those bytes, so that their length need not be asked at run time.
-// And single bytes, two as a number, the first byte highest, and any number of them copied into a slice.
+// And single bytes, two as a number, the first byte highest, a number's two, and any number of them copied into a slice.
 ghost use mathlib.Core.Path.{_≡_};
-ghost use Prim.Native.Nat.{_^_, _<_};
+ghost use Prim.Native.Nat.{_/_, _%_, _^_, _<_};
 ghost use lib.ListN.{getD};
 ghost use Rattle.laws.specs.Bytes.{of16};
 ghost use Rattle.words.specs.Words.{numberOf, putOf, copiedIn};
@@ -58,6 +58,20 @@ pub fn be16(hi: u8, lo: u8) -> u16
     ensures { λ r. ⌜ r ≡ of16 hi lo ⌝ }
 {
     (hi as u16) * 256 + (lo as u16)
+}
+
+// The higher byte of a number.
+pub fn high(n: u16) -> u8
+    ensures { λ r. ⌜ r ≡ n / 256 ⌝ }
+{
+    (n / 256) as u8
+}
+
+// The lower byte of a number.
+pub fn low(n: u16) -> u8
+    ensures { λ r. ⌜ r ≡ n % 256 ⌝ }
+{
+    (n % 256) as u8
 }
 
 // A byte of a slice; 0 past its end.
