@@ -1,4 +1,5 @@
 pub mod Barred
 pub mod Counters
+pub mod Said
 pub mod Stored
 pub mod Types

@@ -1,4 +1,5 @@
-// What a step of the transport receiver answers, the counters that it raises (`counters`, `entries`) and the keys of its tables (`entries`).
+// What a step of the transport receiver answers, what that says (`said`), the counters that it raises (`counters`, `entries`) and the keys of its
+// tables (`entries`).
 // What each frame type does is in the crates above: receive_frames, command_frames, plain_frames.
 use address::GatewayID;
 use network::PacketType;
@@ -7,6 +8,7 @@ use transport::PacketNumber;
 
 pub mod counters;
 pub mod entries;
+pub mod said;
 
 // What a step answers: first the refusals of 01's table, then what an accepted frame says.
 pub enum Answer {

@@ -1,98 +1,82 @@
 // The transport receiver's doors. Its nine arrays are lent, and are left as the step leaves them.
 ghost use mathlib.Core.Path.{_≡_};
 ghost use Rattle.transport_receiver.specs.Lent.{arrays, resetIn};
-ghost use Rattle.doors.specs.Dispatch.{stepAnswer, stepNews, steppedAt, resetAnswer};
+ghost use Rattle.doors.specs.Dispatch.{crossedBy, stepAnswer, stepNews, steppedAt, resetAnswer};
+use answers::said::Said;
 use link::Type;
-use transport_receiver::Answer;
 
-// An answer as one number: a refusal by its number in 01's table; 0 for a frame that is counted and no more, 9 for a command kept,
-// and otherwise the kind of its event in 01's event record.
-fn answer_number(a: Answer) -> u64
-    ensures { λ r. ⌜ r ≡ stepAnswer a ⌝ }
-{
-    match a {
-        Answer::OverLimit => 12 << 32,
-        Answer::InvalidGatewayID => 13 << 32,
-        Answer::WrongDirection => 20 << 32,
-        Answer::WrongLength => 21 << 32,
-        Answer::UnknownStatusType => 22 << 32,
-        Answer::TooShort { needed: _ } => 23 << 32,
-        Answer::UnknownGateway => 24 << 32,
-        Answer::NumbersFull => 25 << 32,
-        Answer::SequencesFull => 26 << 32,
-        Answer::CommandsFull => 27 << 32,
-        Answer::NamesFrom => 28 << 32,
-        Answer::InvalidVersion => 29 << 32,
-        Answer::NoRequest => 30 << 32,
-        Answer::UnhandledType => 31 << 32,
-        Answer::PayloadTooLong => 32 << 32,
-        Answer::Counted => 0,
-        Answer::CommandKept => 9,
-        Answer::EnumerationStarted { gateway: _ } => 1,
-        Answer::IdentityObserved => 2,
-        Answer::VersionObserved => 3,
-        Answer::EnumerationEnded => 4,
-        Answer::SlotCounterCaptured => 5,
-        Answer::SlotCounterObserved {
-            number: _,
-            slot: _,
-            repeat: _,
-            area: _,
-        } => 6,
-        Answer::CommandExecuted {
-            place: _,
-            request: _,
-            length: _,
-            response: _,
-        } => 8,
-    }
+// How an answer crosses: as one number, and what it says besides.
+struct Crossed {
+    number: u64,
+    news: [u64; 4],
 }
 
-// What an answer says besides: the length needed; the gateway named; number, slot counter, repeat mark and where the packets start; or the
-// request's place, type and length and the response's type. Zeros for any other.
-fn news_by(a: Answer) -> [u64; 4]
-    ensures { λ r. ⌜ r ≡ stepNews a ⌝ }
+// The number: a refusal by its number in 01's table; 0 for a frame that is counted and no more, 9 for a command kept, and otherwise the kind of
+// its event in 01's event record. Besides: the value of a refusal that has one; the gateway named; number, slot counter, repeat mark and where the
+// packets start; or the request's place, type and length and the response's type. Zeros for any other.
+fn crossed_by(s: Said) -> Crossed
+    ensures { λ r. ⌜ r ≡ crossedBy s ⌝ }
 {
-    match a {
-        Answer::TooShort { needed } => [needed as u64, 0, 0, 0],
-        Answer::EnumerationStarted { gateway } => [gateway.0 as u64, 0, 0, 0],
-        Answer::SlotCounterObserved {
+    match s {
+        Said::Refused(n) => Crossed {
+            number: (n as u64) << 32,
+            news: [0, 0, 0, 0],
+        },
+        Said::RefusedWith(n, value) => Crossed {
+            number: (n as u64) << 32,
+            news: [value as u64, 0, 0, 0],
+        },
+        Said::Counted => Crossed {
+            number: 0,
+            news: [0, 0, 0, 0],
+        },
+        Said::Kept => Crossed {
+            number: 9,
+            news: [0, 0, 0, 0],
+        },
+        Said::Started(gateway) => Crossed {
+            number: 1,
+            news: [gateway.0 as u64, 0, 0, 0],
+        },
+        Said::Identity => Crossed {
+            number: 2,
+            news: [0, 0, 0, 0],
+        },
+        Said::Version => Crossed {
+            number: 3,
+            news: [0, 0, 0, 0],
+        },
+        Said::Ended => Crossed {
+            number: 4,
+            news: [0, 0, 0, 0],
+        },
+        Said::Captured => Crossed {
+            number: 5,
+            news: [0, 0, 0, 0],
+        },
+        Said::Slot {
             number,
             slot,
             repeat,
             area,
-        } => [number.0 as u64, slot.0 as u64, repeat as u64, area as u64],
-        Answer::CommandExecuted {
+        } => Crossed {
+            number: 6,
+            news: [number.0 as u64, slot.0 as u64, repeat as u64, area as u64],
+        },
+        Said::Command {
             place,
             request,
             length,
             response,
-        } => [
-            place as u64,
-            request.0 as u64,
-            length as u64,
-            response.0 as u64,
-        ],
-        Answer::OverLimit => [0, 0, 0, 0],
-        Answer::InvalidGatewayID => [0, 0, 0, 0],
-        Answer::WrongDirection => [0, 0, 0, 0],
-        Answer::WrongLength => [0, 0, 0, 0],
-        Answer::UnknownStatusType => [0, 0, 0, 0],
-        Answer::UnknownGateway => [0, 0, 0, 0],
-        Answer::NumbersFull => [0, 0, 0, 0],
-        Answer::SequencesFull => [0, 0, 0, 0],
-        Answer::CommandsFull => [0, 0, 0, 0],
-        Answer::NamesFrom => [0, 0, 0, 0],
-        Answer::InvalidVersion => [0, 0, 0, 0],
-        Answer::NoRequest => [0, 0, 0, 0],
-        Answer::UnhandledType => [0, 0, 0, 0],
-        Answer::PayloadTooLong => [0, 0, 0, 0],
-        Answer::Counted => [0, 0, 0, 0],
-        Answer::CommandKept => [0, 0, 0, 0],
-        Answer::IdentityObserved => [0, 0, 0, 0],
-        Answer::VersionObserved => [0, 0, 0, 0],
-        Answer::EnumerationEnded => [0, 0, 0, 0],
-        Answer::SlotCounterCaptured => [0, 0, 0, 0],
+        } => Crossed {
+            number: 8,
+            news: [
+                place as u64,
+                request.0 as u64,
+                length as u64,
+                response.0 as u64,
+            ],
+        },
     }
 }
 
@@ -133,9 +117,10 @@ pub extern "C" fn johkkesir_transport_step(
         Type(frame_type),
         payload,
     );
-    let n = news_by(a);
+    let c = crossed_by(answers::said::said_of(a));
+    let n = c.news;
     *news = n;
-    answer_number(a)
+    c.number
 }
 
 // The counters to 0, and nothing else; or 12, and nothing changes.

@@ -22,51 +22,40 @@ use Rattle.transport_receiver.specs.State.{State, Frame, payloadAt, stateOf}
 use Rattle.transport_receiver.specs.Step.{Event, command, Outcome, silent, event, stepOf, overLimit}
 use Rattle.transport_receiver.specs.Step as step
 use Rattle.transport_receiver.specs.Lent.{requestPayload, handledIn, stepIn}
-use Rattle.transport_receiver.specs.Handed.{handed}
+use Rattle.transport_receiver.specs.Handed.{outcomeOf}
 use Rattle.transport_receiver.specs.declared.Receiver.{Receiver}
 use Rattle.transport_receiver.specs.declared.Stepped.{Stepped}
-use Rattle.answers.specs.declared.Answer.{Answer}
-use Rattle.answers.specs.declared.Answer.the-variants.{OverLimit, InvalidGatewayID, WrongDirection, WrongLength, UnknownStatusType, TooShort, UnknownGateway, NumbersFull, SequencesFull, CommandsFull, NamesFrom, InvalidVersion, NoRequest, UnhandledType, PayloadTooLong, Counted, CommandKept, EnumerationStarted, IdentityObserved, VersionObserved, EnumerationEnded, SlotCounterCaptured, SlotCounterObserved, CommandExecuted}
+use Rattle.answers.specs.declared.Answer.the-variants.{WrongDirection, WrongLength, NoRequest}
+use Rattle.answers.specs.declared.said.Said.{Said}
+use Rattle.answers.specs.declared.said.Said.the-variants as said
+use Rattle.answers.specs.Said.{saidOf}
 use Rattle.transport_receiver.proofs.Pool.{overLimit-places}
 use Rattle.laws.proofs.Cases.{by}
 use Rattle.transport_receiver.proofs.Refines.{Sized, refines}
 use Rattle.event_log.specs.Records.{Entry, entryBytes, recordsOf, recordsIn, bytesOf, recordsHanded, answerHanded, answerBytes}
-use Rattle.event_log.specs.Answers.{eventIn, eventOf}
+use Rattle.event_log.specs.Answers.{eventOf, eventSaid, eventIn}
 use Rattle.event_log.proofs.Log.{Holds, each-sound, log-holds}
 use Rattle.event_log.proofs.Came.{passed-step, came}
 use Rattle.event_log.proofs.Writes.{answer-13, answer-records}
 use Rattle.event_log.proofs.Every.{Fine, held-small, arrays-small, every-sound, every-small}
 
 -- an executed command points at a place that there is
-abbrev Placed : Answer → Type 0
-Placed a = (p : ℕ) (q : PacketType) (n : ℕ) (u : PacketType) → a ≡ CommandExecuted p q n u → (p < 64) × (n ≤ 245)
+abbrev Placed : Said → Type 0
+Placed s = (p : ℕ) (q : PacketType) (n : ℕ) (u : PacketType) → s ≡ said.Command p q n u → (p < 64) × (n ≤ 245)
 
-said-handed : (pool : List ℕ) (f : Frame) (a : Answer) → Placed a → eventIn pool (f .gateway) (f .payload) a ≡ eventOf (handed pool f a)
+said-placed : (pool p : List ℕ) (g : ℕ) (s : Said) → Placed s → eventSaid pool g p s ≡ eventOf (outcomeOf (payloadAt pool) g p s)
 unfolding requestPayload
-said-handed pool f OverLimit h = refl
-said-handed pool f InvalidGatewayID h = refl
-said-handed pool f WrongDirection h = refl
-said-handed pool f WrongLength h = refl
-said-handed pool f UnknownStatusType h = refl
-said-handed pool f (TooShort needed) h = refl
-said-handed pool f UnknownGateway h = refl
-said-handed pool f NumbersFull h = refl
-said-handed pool f SequencesFull h = refl
-said-handed pool f CommandsFull h = refl
-said-handed pool f NamesFrom h = refl
-said-handed pool f InvalidVersion h = refl
-said-handed pool f NoRequest h = refl
-said-handed pool f UnhandledType h = refl
-said-handed pool f PayloadTooLong h = refl
-said-handed pool f Counted h = refl
-said-handed pool f CommandKept h = refl
-said-handed pool f (EnumerationStarted gateway) h = refl
-said-handed pool f IdentityObserved h = refl
-said-handed pool f VersionObserved h = refl
-said-handed pool f EnumerationEnded h = refl
-said-handed pool f SlotCounterCaptured h = refl
-said-handed pool f (SlotCounterObserved number slot repeat area) h = refl
-said-handed pool f (CommandExecuted p q n u) h = let i = h p q n u refl in rw (lt-ltb p 64 (i .0), le-ltb 245 n (i .1))
+said-placed pool p g (said.Refused n) h = refl
+said-placed pool p g (said.RefusedWith n m) h = refl
+said-placed pool p g said.Counted h = refl
+said-placed pool p g said.Kept h = refl
+said-placed pool p g (said.Started gateway) h = refl
+said-placed pool p g said.Identity h = refl
+said-placed pool p g said.Version h = refl
+said-placed pool p g said.Ended h = refl
+said-placed pool p g said.Captured h = refl
+said-placed pool p g (said.Slot number slot repeat area) h = refl
+said-placed pool p g (said.Command i q n u) h = let j = h i q n u refl in rw (lt-ltb i 64 (j .0), le-ltb 245 n (j .1))
 
 -- only a command response gives a command
 from-response : (s : State) (f : Frame) (g t u : ℕ) (q p : List ℕ) → stepOf s f .outcome ≡ event (command g t q u p) → f .frameType ≡ Types.command-response
@@ -89,29 +78,29 @@ unfolding stateOf
 none-over-12 r o = sym (overLimit-places (r .ckeys) (r .ctypes) (r .clengths) (r .cpayloads)) ∙ o
 
 module _ (r : Receiver) (z : Sized r) (f : Frame) where
-  placed-response : overOf (r .ckeys) (r .clengths) 245 ≡ false → ltb 0x7fff (f .gateway) ≡ false → ltb 250 (length (f .payload)) ≡ false → f .frameType ≡ Types.command-response → Placed (stepIn r f .answer)
+  placed-response : overOf (r .ckeys) (r .clengths) 245 ≡ false → ltb 0x7fff (f .gateway) ≡ false → ltb 250 (length (f .payload)) ≡ false → f .frameType ≡ Types.command-response → Placed (saidOf (stepIn r f .answer))
   unfolding stepIn handledIn commandResponseIn finishedIn
   placed-response o g l k p q n u e =
       let key = commandKey (f .gateway) (getD (f .payload) 4 0) in
       let i = firstOf (r .ckeys) (suc key) in
       by (f .from)
       (λ t. by (ltb (length (f .payload)) 5)
-      (λ m. absurd (let y : WrongLength ≡ CommandExecuted p q n u = rw (o, g, l, k, t, m) at e in let x : _≡_ {A = ℕ} 0 1 = cc in omega arith))
+      (λ m. absurd (let y : saidOf WrongLength ≡ said.Command p q n u = rw (o, g, l, k, t, m) at e in let x : _≡_ {A = ℕ} 0 1 = cc in omega arith))
       (λ m. by (ltb i 64)
-      (λ v. let y : CommandExecuted i (record { 0 = getD (r .ctypes) i 0 }) (getD (r .clengths) i 0) (record { 0 = getD (f .payload) 3 0 }) ≡ CommandExecuted p q n u = rw (o, g, l, k, t, m, v) at e in
+      (λ v. let y : said.Command i (record { 0 = getD (r .ctypes) i 0 }) (getD (r .clengths) i 0) (record { 0 = getD (f .payload) 3 0 }) ≡ said.Command p q n u = rw (o, g, l, k, t, m, v) at e in
       let a : i ≡ p = cc in
       let b : getD (r .clengths) i 0 ≡ n = cc in
       let c = ltb-true i 64 v in
       let d = held-small r key o (omega (arith, z .ckeys)) in
       (omega arith, omega arith))
-      (λ v. absurd (let y : NoRequest ≡ CommandExecuted p q n u = rw (o, g, l, k, t, m, v) at e in let x : _≡_ {A = ℕ} 0 1 = cc in omega arith))))
-      (λ t. absurd (let y : WrongDirection ≡ CommandExecuted p q n u = rw (o, g, l, k, t) at e in let x : _≡_ {A = ℕ} 0 1 = cc in omega arith))
+      (λ v. absurd (let y : saidOf NoRequest ≡ said.Command p q n u = rw (o, g, l, k, t, m, v) at e in let x : _≡_ {A = ℕ} 0 1 = cc in omega arith))))
+      (λ t. absurd (let y : saidOf WrongDirection ≡ said.Command p q n u = rw (o, g, l, k, t) at e in let x : _≡_ {A = ℕ} 0 1 = cc in omega arith))
 
-  placed-step : Placed (stepIn r f .answer)
+  placed-step : Placed (saidOf (stepIn r f .answer))
   placed-step p q n u e =
       let t = stepIn r f in
       let x = command (f .gateway) (q .0) (payloadAt (t .receiver .cpayloads) p n) (u .0) (drop 5 (f .payload)) in
-      let i : stepOf (stateOf r) f .outcome ≡ event x = sym (ap (λ (w : step.Result). w .outcome) (refines r z f)) ∙ ap (handed (t .receiver .cpayloads) f) e in
+      let i : stepOf (stateOf r) f .outcome ≡ event x = sym (ap (λ (w : step.Result). w .outcome) (refines r z f)) ∙ ap (outcomeOf (payloadAt (t .receiver .cpayloads)) (f .gateway) (f .payload)) e in
       let rows = passed-step (stateOf r) f x i .0 in
       placed-response (none-over-12 r (rows .0)) (rows .1 .0) (rows .1 .1 .0) (from-response (stateOf r) f _ _ _ _ _ i) p q n u e
 
@@ -119,7 +108,7 @@ module _ (r : Receiver) (z : Sized r) (f : Frame) where
   module _ (t : Stepped) (same : t ≡ stepIn r f) where
     pub answer-event : eventIn (t .receiver .cpayloads) (f .gateway) (f .payload) (t .answer) ≡ eventOf (stepOf (stateOf r) f .outcome)
     answer-event =
-        rw same (said-handed (stepIn r f .receiver .cpayloads) f (stepIn r f .answer) placed-step ∙ ap (λ (w : step.Result). eventOf (w .outcome)) (refines r z f))
+        rw same (said-placed (stepIn r f .receiver .cpayloads) (f .payload) (f .gateway) (saidOf (stepIn r f .answer)) placed-step ∙ ap (λ (w : step.Result). eventOf (w .outcome)) (refines r z f))
 
     abbrev pub records : List Entry
     records = recordsIn (eventIn (t .receiver .cpayloads) (f .gateway) (f .payload) (t .answer))

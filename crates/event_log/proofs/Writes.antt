@@ -22,9 +22,10 @@ use Rattle.event_record.proofs.Written.{length-written}
 use Rattle.event_record.proofs.Fit.{fits-counter}
 use Rattle.transport_receiver.specs.Step.{slot-counter}
 use Rattle.event_log.specs.Records.{Entry, entry, recordsOf, recordsIn, bytesOf, anyOver, anyUnsound, recordsHanded, recordsBytes, answerHanded, answerBytes}
-use Rattle.event_log.specs.Answers.{saidOf, eventSaid, eventIn, roomAfter}
+use Rattle.event_log.specs.Answers.{eventSaid, eventIn, roomAfter}
 use Rattle.answers.specs.declared.Answer.{Answer}
-use Rattle.event_log.specs.declared.Said.{Said}
+use Rattle.answers.specs.declared.said.Said.{Said}
+use Rattle.answers.specs.Said.{saidOf}
 use Rattle.event_log.specs.declared.Room.the-variants.{Left, Short}
 use Rattle.event_log.proofs.Areas.{areaBytes, areaSpace, length-area, length-found, bytes-packet, space-packet, none-over, none-unsound, sound-found}
 

@@ -9,10 +9,11 @@ ghost use Rattle.sound_record.specs.Record.{written};
 ghost use Rattle.event_record.specs.Handed.{handed};
 ghost use Rattle.transport_receiver.specs.Step.{slot-counter};
 ghost use Rattle.event_log.specs.Records.{packetsAt, recordsOf, recordsIn, bytesOf, recordsHanded, recordsBytes, answerHanded, answerBytes, spaceOf};
-ghost use Rattle.event_log.specs.Answers.{saidOf, eventIn, roomAfter};
+ghost use Rattle.event_log.specs.Answers.{eventIn, roomAfter};
 use address::Address;
 use address::GatewayID;
 use address::ID_LIMIT;
+use answers::said::Said;
 use event_record::Recorded;
 use network::Found;
 use sound_record::BODY_AT;
@@ -21,65 +22,10 @@ use transport_receiver::Answer;
 // How many bytes the record of kind 6 has.
 const SLOT_SIZE: usize = 9;
 
-// What an answer says for a log: its event, if it has one.
-enum Said {
-    Nothing,
-    Started(GatewayID),
-    Identity,
-    Version,
-    Ended,
-    Captured,
-    // Slot counter, repeat mark, and where the packet area starts in the payload.
-    Slot(u16, bool, usize),
-    // The request's place in the pool, its type and length; the response's type.
-    Command(usize, u8, u8, u8),
-}
-
 // How much room is left, or that there is too little.
 enum Room {
     Left(usize),
     Short,
-}
-
-fn heard(answer: Answer) -> Said
-    ensures { λ r. ⌜ r ≡ saidOf answer ⌝ }
-{
-    match answer {
-        Answer::OverLimit => Said::Nothing,
-        Answer::InvalidGatewayID => Said::Nothing,
-        Answer::WrongDirection => Said::Nothing,
-        Answer::WrongLength => Said::Nothing,
-        Answer::UnknownStatusType => Said::Nothing,
-        Answer::TooShort { needed: _ } => Said::Nothing,
-        Answer::UnknownGateway => Said::Nothing,
-        Answer::NumbersFull => Said::Nothing,
-        Answer::SequencesFull => Said::Nothing,
-        Answer::CommandsFull => Said::Nothing,
-        Answer::NamesFrom => Said::Nothing,
-        Answer::InvalidVersion => Said::Nothing,
-        Answer::NoRequest => Said::Nothing,
-        Answer::UnhandledType => Said::Nothing,
-        Answer::PayloadTooLong => Said::Nothing,
-        Answer::Counted => Said::Nothing,
-        Answer::CommandKept => Said::Nothing,
-        Answer::EnumerationStarted { gateway } => Said::Started(gateway),
-        Answer::IdentityObserved => Said::Identity,
-        Answer::VersionObserved => Said::Version,
-        Answer::EnumerationEnded => Said::Ended,
-        Answer::SlotCounterCaptured => Said::Captured,
-        Answer::SlotCounterObserved {
-            number: _,
-            slot,
-            repeat,
-            area,
-        } => Said::Slot(slot.0, repeat, area),
-        Answer::CommandExecuted {
-            place,
-            request,
-            length,
-            response,
-        } => Said::Command(place, request.0, length, response.0),
-    }
 }
 
 // The gateway that an address names.
@@ -202,18 +148,31 @@ fn write_event(
     ensures answer { λ r. ⌜ handed r ≡ recordsHanded (recordsIn (eventIn (now (cpayloads .entry)) (id .0) (now (payload .entry)) answer)) (length (now (out .entry))) ⌝ }
     ensures bytes { λ _. ⌜ now (out .exit) ≡ recordsBytes (recordsIn (eventIn (now (cpayloads .entry)) (id .0) (now (payload .entry)) answer)) (now (out .entry)) ⌝ }
 {
-    let told = heard(answer);
+    let told = answers::said::said_of(answer);
     match told {
-        Said::Nothing => Recorded::Written(0),
+        Said::Refused(_) => Recorded::Written(0),
+        Said::RefusedWith(_, _) => Recorded::Written(0),
+        Said::Counted => Recorded::Written(0),
+        Said::Kept => Recorded::Written(0),
         Said::Started(gateway) => event_record::enumeration_started(out, gateway),
         Said::Identity => event_record::identity(out, id, front(payload, 8)),
         Said::Version => event_record::version(out, id, payload),
         Said::Ended => event_record::enumeration_ended(out, id),
         Said::Captured => event_record::slot_captured(out, id),
-        Said::Slot(counter, repeat, area) => slots(out, id, counter, repeat, behind(payload, area)),
-        Said::Command(place, request, length, response) => {
+        Said::Slot {
+            number: _,
+            slot,
+            repeat,
+            area,
+        } => slots(out, id, slot.0, repeat, behind(payload, area)),
+        Said::Command {
+            place,
+            request,
+            length,
+            response,
+        } => {
             let asked = transport_receiver::request_payload(cpayloads, place, length);
-            event_record::command(out, id, request, asked, response, behind(payload, 5))
+            event_record::command(out, id, request.0, asked, response.0, behind(payload, 5))
         }
     }
 }

@@ -165,6 +165,8 @@ use Rattle.answers.proofs.entries.add.Kinds as answers·entries·add·kinds
 use Rattle.answers.proofs.entries.add.Reads as answers·entries·add·reads
 use Rattle.answers.proofs.entries.raise.Kinds as answers·entries·raise·kinds
 use Rattle.answers.proofs.entries.raise.Reads as answers·entries·raise·reads
+use Rattle.answers.proofs.said.said_of.Kinds as answers·said·said-of·kinds
+use Rattle.answers.proofs.said.said_of.Reads as answers·said·said-of·reads
 use Rattle.receive_frames.proofs.receive_request.Kinds as receive-frames·receive-request·kinds
 use Rattle.receive_frames.proofs.receive_request.Reads as receive-frames·receive-request·reads
 use Rattle.receive_frames.proofs.receive_response.Kinds as receive-frames·receive-response·kinds
@@ -467,6 +469,9 @@ answers·entries·add κs a x y u v p q = (refl, ap (λ (z : List ℕ). (at-last
 
 pub answers·entries·raise : Determined 1 answers·entries·raise·kinds.ps answers·entries·raise·kinds.r answers·entries·raise·reads.Learnt
 answers·entries·raise κs a x y u v p q = (refl, ap (λ (z : List ℕ). (at-last (a .0) z, (a .1 .0, tt))) (p ∙ sym q))
+
+pub answers·said·said-of : Determined 0 answers·said·said-of·kinds.ps answers·said·said-of·kinds.r answers·said·said-of·reads.Learnt
+answers·said·said-of κs a x y u v p q = (p ∙ sym q, refl)
 
 pub receive-frames·receive-request : Determined 4 receive-frames·receive-request·kinds.ps receive-frames·receive-request·kinds.r receive-frames·receive-request·reads.Learnt
 receive-frames·receive-request κs a x y u v p q = (ap (λ (s : Asked). s .answer) (p ∙ sym q), ap (λ (s : Asked). (at-last (a .0) (s .nkeys), (at-last (a .1 .0) (s .numbers), (at-last (a .1 .1 .0) (s .counters), (a .1 .1 .1 .0, (a .1 .1 .1 .1 .0, (a .1 .1 .1 .1 .1 .0, tt))))))) (p ∙ sym q))

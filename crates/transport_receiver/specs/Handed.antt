@@ -9,34 +9,28 @@ use Rattle.transport_receiver.specs.Step.{Event, enumeration-started, id
 use Rattle.transport_receiver.specs.declared.Stepped.{Stepped}
 use Rattle.transport_receiver.specs.declared.WasReset.{WasReset}
 use Rattle.answers.specs.declared.Answer.{Answer}
-use Rattle.answers.specs.declared.Answer.the-variants.{OverLimit, InvalidGatewayID, WrongDirection, WrongLength, UnknownStatusType, TooShort, UnknownGateway, NumbersFull, SequencesFull, CommandsFull, NamesFrom, InvalidVersion, NoRequest, UnhandledType, PayloadTooLong, Counted, CommandKept, EnumerationStarted, IdentityObserved, VersionObserved, EnumerationEnded, SlotCounterCaptured, SlotCounterObserved, CommandExecuted}
+use Rattle.answers.specs.declared.said.Said.{Said}
+use Rattle.answers.specs.declared.said.Said.the-variants as said
+use Rattle.answers.specs.Said.{saidOf}
 
--- an answer to a frame, with the pool of the state after it: what is a part of the payload or of the pool is that part
+-- what is said of a frame of the gateway g with the payload p, in 01's numbers and values: a part of the payload is that part; `asked` gives the
+-- request payload of a length at a place of the pool
+abbrev pub outcomeOf : (ℕ → ℕ → List ℕ) → ℕ → List ℕ → Said → Outcome
+outcomeOf asked g p (said.Refused n) = refused n
+outcomeOf asked g p (said.RefusedWith n value) = refused-with n value
+outcomeOf asked g p said.Counted = silent
+outcomeOf asked g p said.Kept = silent
+outcomeOf asked g p (said.Started gateway) = event (enumeration-started (gateway .0))
+outcomeOf asked g p said.Identity = event (identity g (longAddress p))
+outcomeOf asked g p said.Version = event (version g p)
+outcomeOf asked g p said.Ended = event (enumeration-ended g)
+outcomeOf asked g p said.Captured = event (slot-captured g)
+outcomeOf asked g p (said.Slot number slot repeat area) = event (slot-counter g (slot .0) repeat (drop area p))
+outcomeOf asked g p (said.Command place request length response) = event (command g (request .0) (asked place length) (response .0) (responseData p))
+
+-- an answer to a frame, with the pool of the state after it
 abbrev pub handed : List ℕ → Frame → Answer → Outcome
-handed pool f OverLimit = refused 12
-handed pool f InvalidGatewayID = refused 13
-handed pool f WrongDirection = refused 20
-handed pool f WrongLength = refused 21
-handed pool f UnknownStatusType = refused 22
-handed pool f (TooShort needed) = refused-with 23 needed
-handed pool f UnknownGateway = refused 24
-handed pool f NumbersFull = refused 25
-handed pool f SequencesFull = refused 26
-handed pool f CommandsFull = refused 27
-handed pool f NamesFrom = refused 28
-handed pool f InvalidVersion = refused 29
-handed pool f NoRequest = refused 30
-handed pool f UnhandledType = refused 31
-handed pool f PayloadTooLong = refused 32
-handed pool f Counted = silent
-handed pool f CommandKept = silent
-handed pool f (EnumerationStarted gateway) = event (enumeration-started (gateway .0))
-handed pool f IdentityObserved = event (identity (f .gateway) (longAddress (f .payload)))
-handed pool f VersionObserved = event (version (f .gateway) (f .payload))
-handed pool f EnumerationEnded = event (enumeration-ended (f .gateway))
-handed pool f SlotCounterCaptured = event (slot-captured (f .gateway))
-handed pool f (SlotCounterObserved number slot repeat area) = event (slot-counter (f .gateway) (slot .0) repeat (drop area (f .payload)))
-handed pool f (CommandExecuted place request length response) = event (command (f .gateway) (request .0) (payloadAt pool place length) (response .0) (responseData (f .payload)))
+handed pool f a = outcomeOf (payloadAt pool) (f .gateway) (f .payload) (saidOf a)
 
 -- what a step says of a frame: what it hands back, and the tables and counters after it
 abbrev pub told : Frame → Stepped → Result

@@ -10,17 +10,19 @@ address-toward-requires c κs = search needs
 step-in-requires : tie.Need-step-in-requires
 step-in-requires c κs = search needs
 
-news-by-requires : tie.Need-news-by-requires
-news-by-requires c κs = search needs
+said-of-requires : tie.Need-said-of-requires
+said-of-requires c κs = search needs
 
-answer-number-requires : tie.Need-answer-number-requires
-answer-number-requires c κs = search needs
+crossed-by-requires : tie.Need-crossed-by-requires
+crossed-by-requires c κs = search needs
 
 returns : tie.Need-returns
 returns c =
-    let s = c .before .before .step-in .ensures .0 in
-    let a = c .before .before .before .before .before .before .before .before .before .before .before .before .address-toward .ensures in
-    (rw (c .answer-number .ensures, ← a, ← s), (rw (c .before .news-by .ensures, ← a, ← s), rw (← a, ← s)))
+    let x = c .before .crossed-by .ensures in
+    let e = c .before .before .said-of .ensures in
+    let s = c .before .before .before .step-in .ensures .0 in
+    let a = c .before .before .before .before .before .before .before .before .before .before .before .before .before .address-toward .ensures in
+    (rw (x, e, ← a, ← s), (rw (x, e, ← a, ← s), rw (← a, ← s)))
 
 pub johkkesir-transport-step-spec : {M : Type 1} → statement M
 johkkesir-transport-step-spec =
@@ -28,6 +30,6 @@ johkkesir-transport-step-spec =
     (tie.spec
     address-toward-requires
     step-in-requires
-    news-by-requires
-    answer-number-requires
+    said-of-requires
+    crossed-by-requires
     returns)

@@ -1,48 +1,7 @@
--- `doors::dispatch::news_by` lays out what each answer says. Assumes nothing.
-use mathlib.Core.Path.{_≡_, refl}
-use mathlib.Core.Bool.{Bool, true, false, cond}
-use mir.Val.{boolByte}
+-- `answers::said::said_of` says what each answer says. Assumes nothing.
 use borrow.Author.Needs.{needs}
-use Rattle.doors.proofs.dispatch.news_by.Statement.{statement}
-use Rattle.doors.proofs.dispatch.news_by.Tie as tie
-
--- a mark as a number
-as-number : (t : Bool) → boolByte t ≡ cond t 1 0
-as-number true = refl
-as-number false = refl
-
-enum-known-a : tie.Need-enum-known-a
-enum-known-a c = search needs
-
-enum-known-a-2 : tie.Need-enum-known-a-2
-enum-known-a-2 c = search needs
-
-cast-t14 : tie.Need-cast-t14
-cast-t14 c = search needs
-
-enum-known-a-3 : tie.Need-enum-known-a-3
-enum-known-a-3 c = search needs
-
-cast-t15 : tie.Need-cast-t15
-cast-t15 c = search needs
-
-cast-t16 : tie.Need-cast-t16
-cast-t16 c = search needs
-
-cast-t17 : tie.Need-cast-t17
-cast-t17 c = search needs
-
-enum-known-a-4 : tie.Need-enum-known-a-4
-enum-known-a-4 c = search needs
-
-cast-t20 : tie.Need-cast-t20
-cast-t20 c = search needs
-
-cast-t21 : tie.Need-cast-t21
-cast-t21 c = search needs
-
-cast-t22 : tie.Need-cast-t22
-cast-t22 c = search needs
+use Rattle.answers.proofs.said.said_of.Statement.{statement}
+use Rattle.answers.proofs.said.said_of.Tie as tie
 
 enum-told : tie.Need-enum-told
 enum-told c = search needs
@@ -58,6 +17,9 @@ enum-told-4 c = search needs
 
 enum-told-5 : tie.Need-enum-told-5
 enum-told-5 c = search needs
+
+enum-known-answer : tie.Need-enum-known-answer
+enum-known-answer c = search needs
 
 enum-told-6 : tie.Need-enum-told-6
 enum-told-6 c = search needs
@@ -92,6 +54,9 @@ enum-told-15 c = search needs
 enum-told-16 : tie.Need-enum-told-16
 enum-told-16 c = search needs
 
+enum-known-answer-2 : tie.Need-enum-known-answer-2
+enum-known-answer-2 c = search needs
+
 enum-told-17 : tie.Need-enum-told-17
 enum-told-17 c = search needs
 
@@ -104,98 +69,94 @@ enum-told-19 c = search needs
 enum-told-20 : tie.Need-enum-told-20
 enum-told-20 c = search needs
 
+enum-known-answer-3 : tie.Need-enum-known-answer-3
+enum-known-answer-3 c = search needs
+
+enum-known-answer-4 : tie.Need-enum-known-answer-4
+enum-known-answer-4 c = search needs
+
 returns : tie.Need-returns
-returns c = rw (c .before .a .given .1)
+returns c = rw (c .enum-told .given .1)
 
 returns-2 : tie.Need-returns-2
-returns-2 c = rw (c .before .before .a2 .given .1)
+returns-2 c = rw (c .enum-told2 .given .1)
 
 returns-3 : tie.Need-returns-3
-returns-3 c = rw (c .before .before .before .a3 .given .1, as-number)
+returns-3 c = rw (c .enum-told3 .given .1)
 
 returns-4 : tie.Need-returns-4
-returns-4 c = rw (c .before .before .before .a4 .given .1)
+returns-4 c = rw (c .enum-told4 .given .1)
 
 returns-5 : tie.Need-returns-5
-returns-5 c = rw (c .enum-told .given .1)
+returns-5 c = rw (c .enum-told5 .given .1)
 
 returns-6 : tie.Need-returns-6
-returns-6 c = rw (c .enum-told2 .given .1)
+returns-6 c = rw (c .before .answer .given .1)
 
 returns-7 : tie.Need-returns-7
-returns-7 c = rw (c .enum-told3 .given .1)
+returns-7 c = rw (c .enum-told6 .given .1)
 
 returns-8 : tie.Need-returns-8
-returns-8 c = rw (c .enum-told4 .given .1)
+returns-8 c = rw (c .enum-told7 .given .1)
 
 returns-9 : tie.Need-returns-9
-returns-9 c = rw (c .enum-told5 .given .1)
+returns-9 c = rw (c .enum-told8 .given .1)
 
 returns-10 : tie.Need-returns-10
-returns-10 c = rw (c .enum-told6 .given .1)
+returns-10 c = rw (c .enum-told9 .given .1)
 
 returns-11 : tie.Need-returns-11
-returns-11 c = rw (c .enum-told7 .given .1)
+returns-11 c = rw (c .enum-told10 .given .1)
 
 returns-12 : tie.Need-returns-12
-returns-12 c = rw (c .enum-told8 .given .1)
+returns-12 c = rw (c .enum-told11 .given .1)
 
 returns-13 : tie.Need-returns-13
-returns-13 c = rw (c .enum-told9 .given .1)
+returns-13 c = rw (c .enum-told12 .given .1)
 
 returns-14 : tie.Need-returns-14
-returns-14 c = rw (c .enum-told10 .given .1)
+returns-14 c = rw (c .enum-told13 .given .1)
 
 returns-15 : tie.Need-returns-15
-returns-15 c = rw (c .enum-told11 .given .1)
+returns-15 c = rw (c .enum-told14 .given .1)
 
 returns-16 : tie.Need-returns-16
-returns-16 c = rw (c .enum-told12 .given .1)
+returns-16 c = rw (c .enum-told15 .given .1)
 
 returns-17 : tie.Need-returns-17
-returns-17 c = rw (c .enum-told13 .given .1)
+returns-17 c = rw (c .enum-told16 .given .1)
 
 returns-18 : tie.Need-returns-18
-returns-18 c = rw (c .enum-told14 .given .1)
+returns-18 c = rw (c .before .answer2 .given .1)
 
 returns-19 : tie.Need-returns-19
-returns-19 c = rw (c .enum-told15 .given .1)
+returns-19 c = rw (c .enum-told17 .given .1)
 
 returns-20 : tie.Need-returns-20
-returns-20 c = rw (c .enum-told16 .given .1)
+returns-20 c = rw (c .enum-told18 .given .1)
 
 returns-21 : tie.Need-returns-21
-returns-21 c = rw (c .enum-told17 .given .1)
+returns-21 c = rw (c .enum-told19 .given .1)
 
 returns-22 : tie.Need-returns-22
-returns-22 c = rw (c .enum-told18 .given .1)
+returns-22 c = rw (c .enum-told20 .given .1)
 
 returns-23 : tie.Need-returns-23
-returns-23 c = rw (c .enum-told19 .given .1)
+returns-23 c = rw (c .before .answer3 .given .1)
 
 returns-24 : tie.Need-returns-24
-returns-24 c = rw (c .enum-told20 .given .1)
+returns-24 c = rw (c .before .answer4 .given .1)
 
-pub news-by-spec : {M : Type 1} → statement M
-news-by-spec =
+pub said-of-spec : {M : Type 1} → statement M
+said-of-spec =
     tie.close
     (tie.spec
-    enum-known-a
-    enum-known-a-2
-    cast-t14
-    enum-known-a-3
-    cast-t15
-    cast-t16
-    cast-t17
-    enum-known-a-4
-    cast-t20
-    cast-t21
-    cast-t22
     enum-told
     enum-told-2
     enum-told-3
     enum-told-4
     enum-told-5
+    enum-known-answer
     enum-told-6
     enum-told-7
     enum-told-8
@@ -207,10 +168,13 @@ news-by-spec =
     enum-told-14
     enum-told-15
     enum-told-16
+    enum-known-answer-2
     enum-told-17
     enum-told-18
     enum-told-19
     enum-told-20
+    enum-known-answer-3
+    enum-known-answer-4
     returns
     returns-2
     returns-3
