@@ -8,8 +8,6 @@ use mir.Val.{boolByte}
 use borrow.Author.Needs.{needs}
 use Rattle.doors.proofs.dispatch.crossed_by.Statement.{statement}
 use Rattle.doors.proofs.dispatch.crossed_by.Tie as tie
-use Rattle.doors.proofs.dispatch.crossed_by.Reads as reads
-use Rattle.doors.proofs.dispatch.crossed_by.Lts as lts
 
 -- a mark as a number
 as-number : (t : Bool) → boolByte t ≡ cond t 1 0
