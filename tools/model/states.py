@@ -19,7 +19,7 @@ import sys
 sys.path.insert(0, os.path.dirname(os.path.abspath(__file__)))
 import events
 
-STATE = struct.Struct("<32I32H32I32B64I64B64B15680s33Q")
+STATE = struct.Struct("<32I32H32I32B64I64B64H15680s33Q")
 SAID = struct.Struct("<6Q")
 PARTS = [("nkeys", 32), ("numbers", 32), ("skeys", 32), ("sequences", 32), ("ckeys", 64), ("ctypes", 64), ("clengths", 64), ("pool", 1), ("counters", 33)]
 TOP = 2**64 - 1
@@ -64,11 +64,11 @@ def made_state(r, gateways):
         "pool": r.randbytes(64 * HELD),
         "counters": [r.choice([0, 1, TOP, TOP - 1, TOP - 2, TOP - 5, r.randrange(2**64)]) for _ in range(33)],
     }
-    state["clengths"] = [r.choice([0, 1, 244, HELD, r.randrange(HELD + 1)]) if key else r.choice([0, HELD, 246, 255]) for key in state["ckeys"]]
+    state["clengths"] = [r.choice([0, 1, 244, HELD, r.randrange(HELD + 1)]) if key else r.choice([0, HELD, 246, 255, 256, 501, 65535]) for key in state["ckeys"]]
     if r.random() < 0.08:
         i = r.randrange(64)
         state["ckeys"][i] = state["ckeys"][i] or r.choice(gateways) * 256 + 1
-        state["clengths"][i] = r.choice([246, 247, 255])
+        state["clengths"][i] = r.choice([246, 247, 255, 256, 257, 501, 512, 65535])
     return state
 
 
@@ -98,7 +98,7 @@ def receiver_of(state):
     t.numbers.places = [(k - 1, n) if k else None for k, n in zip(state["nkeys"], state["numbers"])]
     t.sequences.places = [(k - 1, n) if k else None for k, n in zip(state["skeys"], state["sequences"])]
     for i, k in enumerate(state["ckeys"]):
-        request = state["pool"][i * HELD : (i + 1) * HELD].ljust(256, b"\0")[: state["clengths"][i]]
+        request = state["pool"][i * HELD : (i + 1) * HELD].ljust(65536, b"\0")[: state["clengths"][i]]
         t.commands.places[i] = (divmod(k - 1, 256), (state["ctypes"][i], request)) if k else None
     t.counters.update(dict(zip(events.COUNTERS, state["counters"])))
     return t

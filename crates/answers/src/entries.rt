@@ -6,6 +6,15 @@ ghost use Rattle.answers.specs.Stored.{gatewayKey, commandKey};
 use address::GatewayID;
 use transport::CommandSequenceNumber;
 
+// The most bytes that are kept of a command request's payload: what a frame's payload has behind the request's own five.
+pub const KEPT_LIMIT: u16 = 245;
+
+// How many bytes of the pool of payloads each of the 64 places has.
+pub const STRIDE: usize = 245;
+
+// How many bytes the pool has.
+pub const POOL: usize = 15680;
+
 // One counter raised by `n`; past the last there is none.
 pub fn add(counters: &mut [u64; 33], i: usize, n: u64)
     ensures { λ _. ⌜ now (counters .exit) ≡ addAt n i (now (counters .entry)) ⌝ }

@@ -69,7 +69,7 @@ pub enum Answer {
     CommandExecuted {
         place: usize,
         request: PacketType,
-        length: u8,
+        length: u16,
         response: PacketType,
     },
 }

@@ -33,7 +33,7 @@ pub enum Said {
     Command {
         place: usize,
         request: PacketType,
-        length: u8,
+        length: u16,
         response: PacketType,
     },
 }

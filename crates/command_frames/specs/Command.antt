@@ -9,7 +9,7 @@ use Rattle.layouts.specs.Layouts.{commandRequestLength, commandResponseLength, 
 use Rattle.tables.specs.Keys.{firstOf, seatOf}
 use Rattle.answers.specs.Counters
 use Rattle.answers.specs.Counters.{raise}
-use Rattle.answers.specs.Stored.{gatewayKey, commandKey}
+use Rattle.answers.specs.Stored.{gatewayKey, commandKey, stride}
 use Rattle.answers.specs.Barred.{unlessBarred}
 use Rattle.answers.specs.declared.Answer.{Answer}
 use Rattle.answers.specs.declared.Answer.the-variants.{WrongDirection, WrongLength, SequencesFull, CommandsFull, NoRequest, CommandKept, CommandExecuted}
@@ -23,7 +23,7 @@ pub record Seated : Type 0 where
 
 -- a request kept at place i of the arrays
 unfoldable pub keepIn : Seated → ℕ → ℕ → List ℕ → Seated
-keepIn s i key p = record { ckeys = set (s .ckeys) i key; ctypes = set (s .ctypes) i (requestType p); clengths = set (s .clengths) i (length (requestData p)); cpayloads = paste (s .cpayloads) (i * 245) (requestData p) (length (requestData p)) }
+keepIn s i key p = record { ckeys = set (s .ckeys) i key; ctypes = set (s .ctypes) i (requestType p); clengths = set (s .clengths) i (length (requestData p)); cpayloads = paste (s .cpayloads) (i * stride) (requestData p) (length (requestData p)) }
 
 -- the arrays of the last sequences, and the counters
 pub record Noted : Type 0 where

@@ -4,11 +4,14 @@ ghost use Prim.Native.Nat.{_*_, _≤_, _<_};
 ghost use lib.ListN.{length, drop};
 ghost use lib.Seq.{paste};
 ghost use Rattle.link.specs.Wire.{payloadLimit};
+ghost use Rattle.answers.specs.Stored.{stride};
 ghost use Rattle.command_frames.specs.Command.{Seated, keepIn, Noted, isLastIn, noteIn, Requested, askedIn, commandRequestIn, Answered, finishedIn, commandResponseIn};
 use address::GatewayID;
 use address::ID_LIMIT;
 use answers::Answer;
 use answers::counters::*;
+use answers::entries::POOL;
+use answers::entries::STRIDE;
 use answers::entries::command_key;
 use answers::entries::gateway_key;
 use answers::entries::raise;
@@ -18,26 +21,26 @@ use transport::CommandSequenceNumber;
 use words::copy_in;
 
 // A request's payload into place i of the pool; its length.
-fn keep_payload(cpayloads: &mut [u8; 15680], i: usize, payload: &[u8]) -> u8
-    requires { ⌜ (i < 64) × (5 ≤ length (now payload)) × (length (now payload) ≤ 250) ⌝ }
-    ensures { λ r. ⌜ (r ≡ length (drop 5 (now (payload .entry)))) × (now (cpayloads .exit) ≡ paste (now (cpayloads .entry)) (i * 245) (drop 5 (now (payload .entry))) (length (drop 5 (now (payload .entry))))) ⌝ }
+fn keep_payload(cpayloads: &mut [u8; POOL], i: usize, payload: &[u8]) -> u16
+    requires { ⌜ (i < 64) × (5 ≤ length (now payload)) × (length (now payload) ≤ payloadLimit) ⌝ }
+    ensures { λ r. ⌜ (r ≡ length (drop 5 (now (payload .entry)))) × (now (cpayloads .exit) ≡ paste (now (cpayloads .entry)) (i * stride) (drop 5 (now (payload .entry))) (length (drop 5 (now (payload .entry))))) ⌝ }
 {
     let t = &payload[5..];
-    copy_in(cpayloads, i * 245, t);
-    t.len() as u8
+    copy_in(cpayloads, i * STRIDE, t);
+    t.len() as u16
 }
 
 // A command request into place i of its table.
 fn keep(
     ckeys: &mut [u32; 64],
     ctypes: &mut [u8; 64],
-    clengths: &mut [u8; 64],
-    cpayloads: &mut [u8; 15680],
+    clengths: &mut [u16; 64],
+    cpayloads: &mut [u8; POOL],
     i: usize,
     key: u32,
     payload: &[u8],
 )
-    requires { ⌜ (i < 64) × (5 ≤ length (now payload)) × (length (now payload) ≤ 250) ⌝ }
+    requires { ⌜ (i < 64) × (5 ≤ length (now payload)) × (length (now payload) ≤ payloadLimit) ⌝ }
     ensures { λ _. ⌜ _≡_ {A = Seated} (record { ckeys = now (ckeys .exit); ctypes = now (ctypes .exit); clengths = now (clengths .exit); cpayloads = now (cpayloads .exit) }) (keepIn (record { ckeys = now (ckeys .entry); ctypes = now (ctypes .entry); clengths = now (clengths .entry); cpayloads = now (cpayloads .entry) }) i key (now (payload .entry))) ⌝ }
 {
     ckeys[i] = key;
@@ -90,8 +93,8 @@ fn ask(
     sequences: &mut [u8; 32],
     ckeys: &mut [u32; 64],
     ctypes: &mut [u8; 64],
-    clengths: &mut [u8; 64],
-    cpayloads: &mut [u8; 15680],
+    clengths: &mut [u16; 64],
+    cpayloads: &mut [u8; POOL],
     counters: &mut [u64; 33],
     from: bool,
     gateway: GatewayID,
@@ -130,8 +133,8 @@ pub fn command_request(
     sequences: &mut [u8; 32],
     ckeys: &mut [u32; 64],
     ctypes: &mut [u8; 64],
-    clengths: &mut [u8; 64],
-    cpayloads: &mut [u8; 15680],
+    clengths: &mut [u16; 64],
+    cpayloads: &mut [u8; POOL],
     counters: &mut [u64; 33],
     from: bool,
     gateway: GatewayID,
@@ -163,7 +166,7 @@ pub fn command_request(
 fn finish(
     ckeys: &mut [u32; 64],
     ctypes: &[u8; 64],
-    clengths: &[u8; 64],
+    clengths: &[u16; 64],
     counters: &mut [u64; 33],
     from: bool,
     gateway: GatewayID,
@@ -200,7 +203,7 @@ fn finish(
 pub fn command_response(
     ckeys: &mut [u32; 64],
     ctypes: &[u8; 64],
-    clengths: &[u8; 64],
+    clengths: &[u16; 64],
     counters: &mut [u64; 33],
     from: bool,
     gateway: GatewayID,

@@ -4,6 +4,7 @@ ghost use Rattle.transport_receiver.specs.Lent.{arrays, resetIn};
 ghost use Rattle.doors.specs.Dispatch.{crossedBy, stepAnswer, stepNews, steppedAt, resetAnswer};
 use answers::said::Said;
 use link::Type;
+use transport_receiver::POOL;
 
 // How an answer crosses: as one number, and what it says besides.
 struct Crossed {
@@ -89,8 +90,8 @@ pub extern "C" fn johkkesir_transport_step(
     sequences: &mut [u8; 32],
     ckeys: &mut [u32; 64],
     ctypes: &mut [u8; 64],
-    clengths: &mut [u8; 64],
-    cpayloads: &mut [u8; 15680],
+    clengths: &mut [u16; 64],
+    cpayloads: &mut [u8; POOL],
     counters: &mut [u64; 33],
     news: &mut [u64; 4],
     from: bool,
@@ -132,8 +133,8 @@ pub extern "C" fn johkkesir_transport_reset(
     sequences: &mut [u8; 32],
     ckeys: &mut [u32; 64],
     ctypes: &mut [u8; 64],
-    clengths: &mut [u8; 64],
-    cpayloads: &mut [u8; 15680],
+    clengths: &mut [u16; 64],
+    cpayloads: &mut [u8; POOL],
     counters: &mut [u64; 33],
 ) -> u64
     ensures { λ r. ⌜ r ≡ resetAnswer (resetIn (arrays (now (nkeys .entry)) (now (numbers .entry)) (now (skeys .entry)) (now (sequences .entry)) (now (ckeys .entry)) (now (ctypes .entry)) (now (clengths .entry)) (now (cpayloads .entry)) (now (counters .entry))) .over) ⌝ }

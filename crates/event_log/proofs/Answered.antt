@@ -15,11 +15,11 @@ use Rattle.tables.specs.Keys.{firstOf, overOf}
 use Rattle.sound_record.specs.Record.{written, soundAt}
 use Rattle.event_record.specs.Handed.{laidIf}
 use Rattle.answers.specs.Types
-use Rattle.answers.specs.Stored.{commandKey}
+use Rattle.answers.specs.Stored.{commandKey, keptLimit}
 use Rattle.command_frames.specs.Command.{finishedIn, commandResponseIn}
 use Rattle.network.specs.declared.PacketType.{PacketType}
 use Rattle.transport_receiver.specs.State.{State, Frame, payloadAt, stateOf}
-use Rattle.transport_receiver.specs.Step.{Event, command, Outcome, silent, event, stepOf, overLimit}
+use Rattle.transport_receiver.specs.Step.{Event, command, Outcome, silent, event, stepOf, overLimit, eventOf}
 use Rattle.transport_receiver.specs.Step as step
 use Rattle.transport_receiver.specs.Lent.{requestPayload, handledIn, stepIn}
 use Rattle.transport_receiver.specs.Handed.{outcomeOf}
@@ -33,7 +33,7 @@ use Rattle.transport_receiver.proofs.Pool.{overLimit-places}
 use Rattle.laws.proofs.Cases.{by}
 use Rattle.transport_receiver.proofs.Refines.{Sized, refines}
 use Rattle.event_log.specs.Records.{Entry, entryBytes, recordsOf, recordsIn, bytesOf, recordsHanded, answerHanded, answerBytes}
-use Rattle.event_log.specs.Answers.{eventOf, eventSaid, eventIn}
+use Rattle.event_log.specs.Answers.{eventSaid, eventIn}
 use Rattle.event_log.proofs.Log.{Holds, each-sound, log-holds}
 use Rattle.event_log.proofs.Came.{passed-step, came}
 use Rattle.event_log.proofs.Writes.{answer-13, answer-records}
@@ -41,7 +41,7 @@ use Rattle.event_log.proofs.Every.{Fine, held-small, arrays-small, ever
 
 -- an executed command points at a place that there is
 abbrev Placed : Said → Type 0
-Placed s = (p : ℕ) (q : PacketType) (n : ℕ) (u : PacketType) → s ≡ said.Command p q n u → (p < 64) × (n ≤ 245)
+Placed s = (p : ℕ) (q : PacketType) (n : ℕ) (u : PacketType) → s ≡ said.Command p q n u → (p < 64) × (n ≤ keptLimit)
 
 said-placed : (pool p : List ℕ) (g : ℕ) (s : Said) → Placed s → eventSaid pool g p s ≡ eventOf (outcomeOf (payloadAt pool) g p s)
 unfolding requestPayload
@@ -55,7 +55,7 @@ said-placed pool p g said.Version h = refl
 said-placed pool p g said.Ended h = refl
 said-placed pool p g said.Captured h = refl
 said-placed pool p g (said.Slot number slot repeat area) h = refl
-said-placed pool p g (said.Command i q n u) h = let j = h i q n u refl in rw (lt-ltb i 64 (j .0), le-ltb 245 n (j .1))
+said-placed pool p g (said.Command i q n u) h = let j = h i q n u refl in rw (lt-ltb i 64 (j .0), le-ltb keptLimit n (j .1))
 
 -- only a command response gives a command
 from-response : (s : State) (f : Frame) (g t u : ℕ) (q p : List ℕ) → stepOf s f .outcome ≡ event (command g t q u p) → f .frameType ≡ Types.command-response
@@ -73,23 +73,23 @@ from-response s f g t u q p i =
     (passed-step s f (command g t q u p) i .1)
     refl
 
-none-over-12 : (r : Receiver) → overLimit (stateOf r .commands) ≡ false → overOf (r .ckeys) (r .clengths) 245 ≡ false
+none-over-12 : (r : Receiver) → overLimit (stateOf r .tables .commands) ≡ false → overOf (r .commands .keys) (r .commands .lengths) keptLimit ≡ false
 unfolding stateOf
-none-over-12 r o = sym (overLimit-places (r .ckeys) (r .ctypes) (r .clengths) (r .cpayloads)) ∙ o
+none-over-12 r o = sym (overLimit-places (r .commands .keys) (r .commands .types) (r .commands .lengths) (r .commands .payloads)) ∙ o
 
 module _ (r : Receiver) (z : Sized r) (f : Frame) where
-  placed-response : overOf (r .ckeys) (r .clengths) 245 ≡ false → ltb 0x7fff (f .gateway) ≡ false → ltb 250 (length (f .payload)) ≡ false → f .frameType ≡ Types.command-response → Placed (saidOf (stepIn r f .answer))
+  placed-response : overOf (r .commands .keys) (r .commands .lengths) keptLimit ≡ false → ltb 0x7fff (f .gateway) ≡ false → ltb 250 (length (f .payload)) ≡ false → f .frameType ≡ Types.command-response → Placed (saidOf (stepIn r f .answer))
   unfolding stepIn handledIn commandResponseIn finishedIn
   placed-response o g l k p q n u e =
       let key = commandKey (f .gateway) (getD (f .payload) 4 0) in
-      let i = firstOf (r .ckeys) (suc key) in
+      let i = firstOf (r .commands .keys) (suc key) in
       by (f .from)
       (λ t. by (ltb (length (f .payload)) 5)
       (λ m. absurd (let y : saidOf WrongLength ≡ said.Command p q n u = rw (o, g, l, k, t, m) at e in let x : _≡_ {A = ℕ} 0 1 = cc in omega arith))
       (λ m. by (ltb i 64)
-      (λ v. let y : said.Command i (record { 0 = getD (r .ctypes) i 0 }) (getD (r .clengths) i 0) (record { 0 = getD (f .payload) 3 0 }) ≡ said.Command p q n u = rw (o, g, l, k, t, m, v) at e in
+      (λ v. let y : said.Command i (record { 0 = getD (r .commands .types) i 0 }) (getD (r .commands .lengths) i 0) (record { 0 = getD (f .payload) 3 0 }) ≡ said.Command p q n u = rw (o, g, l, k, t, m, v) at e in
       let a : i ≡ p = cc in
-      let b : getD (r .clengths) i 0 ≡ n = cc in
+      let b : getD (r .commands .lengths) i 0 ≡ n = cc in
       let c = ltb-true i 64 v in
       let d = held-small r key o (omega (arith, z .ckeys)) in
       (omega arith, omega arith))
@@ -99,19 +99,19 @@ module _ (r : Receiver) (z : Sized r) (f : Frame) where
   placed-step : Placed (saidOf (stepIn r f .answer))
   placed-step p q n u e =
       let t = stepIn r f in
-      let x = command (f .gateway) (q .0) (payloadAt (t .receiver .cpayloads) p n) (u .0) (drop 5 (f .payload)) in
-      let i : stepOf (stateOf r) f .outcome ≡ event x = sym (ap (λ (w : step.Result). w .outcome) (refines r z f)) ∙ ap (outcomeOf (payloadAt (t .receiver .cpayloads)) (f .gateway) (f .payload)) e in
+      let x = command (f .gateway) (q .0) (payloadAt (t .receiver .commands .payloads) p n) (u .0) (drop 5 (f .payload)) in
+      let i : stepOf (stateOf r) f .outcome ≡ event x = sym (ap (λ (w : step.Result). w .outcome) (refines r z f)) ∙ ap (outcomeOf (payloadAt (t .receiver .commands .payloads)) (f .gateway) (f .payload)) e in
       let rows = passed-step (stateOf r) f x i .0 in
       placed-response (none-over-12 r (rows .0)) (rows .1 .0) (rows .1 .1 .0) (from-response (stateOf r) f _ _ _ _ _ i) p q n u e
 
   -- the answer's event is that of 01's step
   module _ (t : Stepped) (same : t ≡ stepIn r f) where
-    pub answer-event : eventIn (t .receiver .cpayloads) (f .gateway) (f .payload) (t .answer) ≡ eventOf (stepOf (stateOf r) f .outcome)
+    pub answer-event : eventIn (t .receiver .commands .payloads) (f .gateway) (f .payload) (t .answer) ≡ eventOf (stepOf (stateOf r) f .outcome)
     answer-event =
-        rw same (said-placed (stepIn r f .receiver .cpayloads) (f .payload) (f .gateway) (saidOf (stepIn r f .answer)) placed-step ∙ ap (λ (w : step.Result). eventOf (w .outcome)) (refines r z f))
+        rw same (said-placed (stepIn r f .receiver .commands .payloads) (f .payload) (f .gateway) (saidOf (stepIn r f .answer)) placed-step ∙ ap (λ (w : step.Result). eventOf (w .outcome)) (refines r z f))
 
     abbrev pub records : List Entry
-    records = recordsIn (eventIn (t .receiver .cpayloads) (f .gateway) (f .payload) (t .answer))
+    records = recordsIn (eventIn (t .receiver .commands .payloads) (f .gateway) (f .payload) (t .answer))
 
     module _ (b : Bytes (f .payload)) where
       of-outcome : (P : List Entry → Type 0) → P [] → ((e : Event) → stepOf (stateOf r) f .outcome ≡ event e → P (recordsOf e)) → P records

@@ -44,7 +44,7 @@ passed-step s f e q = passed (rowsOf s f) s f e (refl, (refl, (refl, (refl, (ref
 module _ (s : State) (f : Frame) (P : Event → Type 0)
     (captured : f .frameType ≡ Types.receive-request → P (slot-captured (f .gateway)))
     (received : f .frameType ≡ Types.receive-response → (n : ℕ) (m : Bool) → P (slot-counter (f .gateway) n m (drop (neededOf (statusOf f)) (f .payload))))
-    (executed : f .frameType ≡ Types.command-response → (c : Command) → valueAt (s .commands) (keyOf f) ≡ some c → P (command (f .gateway) (c .packetType) (c .payload) (getD (f .payload) 3 0) (drop 5 (f .payload))))
+    (executed : f .frameType ≡ Types.command-response → (c : Command) → valueAt (s .tables .commands) (keyOf f) ≡ some c → P (command (f .gateway) (c .packetType) (c .payload) (getD (f .payload) 3 0) (drop 5 (f .payload))))
     (started : f .frameType ≡ Types.enumeration-start-request → P (enumeration-started (gatewayOf (addressOf (be16At (f .payload) 4)))))
     (enumerated : f .frameType ≡ Types.enumeration-response → P (identity (f .gateway) (take 8 (f .payload))))
     (identified : f .frameType ≡ Types.identify-response → P (identity (f .gateway) (take 8 (f .payload))))
@@ -57,7 +57,7 @@ module _ (s : State) (f : Frame) (P : Event → Type 0)
   quiet : silent ≡ event e → P e
   quiet q = absurd (let z : _≡_ {A = ℕ} 0 1 = cc in omega arith)
 
-  answered : f .frameType ≡ Types.command-response → (v : Option Command) → valueAt (s .commands) (keyOf f) ≡ v → executedOf v f ≡ event e → P e
+  answered : f .frameType ≡ Types.command-response → (v : Option Command) → valueAt (s .tables .commands) (keyOf f) ≡ v → executedOf v f ≡ event e → P e
   answered k none u q = quiet q
   answered k (some c) u q = is _ (executed k c u) q
 
@@ -66,7 +66,7 @@ module _ (s : State) (f : Frame) (P : Event → Type 0)
       by (eqb (f .frameType) Types.receive-request) (λ t. is _ (captured (eqb-true _ _ t)) (rw t at q))
       (λ t1. by (eqb (f .frameType) Types.receive-response) (λ t. is _ (received (eqb-true _ _ t) _ _) (rw (t1, t) at q))
       (λ t2. by (eqb (f .frameType) Types.command-request) (λ t. quiet (rw (t1, t2, t) at q))
-      (λ t3. by (eqb (f .frameType) Types.command-response) (λ t. answered (eqb-true _ _ t) (valueAt (s .commands) (keyOf f)) refl (rw (t1, t2, t3, t) at q))
+      (λ t3. by (eqb (f .frameType) Types.command-response) (λ t. answered (eqb-true _ _ t) (valueAt (s .tables .commands) (keyOf f)) refl (rw (t1, t2, t3, t) at q))
       (λ t4. by (eqb (f .frameType) Types.enumeration-start-request) (λ t. is _ (started (eqb-true _ _ t)) (rw (t1, t2, t3, t4, t) at q))
       (λ t5. by (eqb (f .frameType) Types.enumeration-response) (λ t. is _ (enumerated (eqb-true _ _ t)) (rw (t1, t2, t3, t4, t5, t) at q))
       (λ t6. by (eqb (f .frameType) Types.identify-response) (λ t. is _ (identified (eqb-true _ _ t)) (rw (t1, t2, t3, t4, t5, t6, t) at q))

@@ -9,6 +9,7 @@ use lib.ListN.{length, getD, take, drop, length-take, length-drop}
 use lib.Seq.{length-take-le}
 use lib.Dec.{eqb, ltb}
 use borrow.Author.Tests.{eqb-true, ltb-true, ltb-false, le-ltb}
+use Rattle.answers.specs.Stored.{keptLimit}
 use Rattle.laws.specs.Bytes.{Bytes, be16At}
 use Rattle.laws.proofs.Bytes.{bytes-drop}
 use Rattle.address.specs.Address.{gatewayOf, addressOf, isFrom}
@@ -62,24 +63,24 @@ over-at (k ∷ ks) (l ∷ ls) limit (suc i) o h = over-at ks ls limit i (go (not
     go false q = q
 
 -- the length of a waiting command's payload, in a state that 12 does not refuse
-pub held-small : (r : Receiver) (k : ℕ) → overOf (r .ckeys) (r .clengths) 245 ≡ false → firstOf (r .ckeys) (suc k) < length (r .ckeys) → getD (r .clengths) (firstOf (r .ckeys) (suc k)) 0 ≤ 245
-held-small r k o h = over-at (r .ckeys) (r .clengths) 245 (firstOf (r .ckeys) (suc k)) o (λ z. omega (arith, first-holds (r .ckeys) (suc k) h))
+pub held-small : (r : Receiver) (k : ℕ) → overOf (r .commands .keys) (r .commands .lengths) keptLimit ≡ false → firstOf (r .commands .keys) (suc k) < length (r .commands .keys) → getD (r .commands .lengths) (firstOf (r .commands .keys) (suc k)) 0 ≤ keptLimit
+held-small r k o h = over-at (r .commands .keys) (r .commands .lengths) keptLimit (firstOf (r .commands .keys) (suc k)) o (λ z. omega (arith, first-holds (r .commands .keys) (suc k) h))
 
-command-small : (r : Receiver) (k : ℕ) (c : Command) → overLimit (stateOf r .commands) ≡ false → valueAt (stateOf r .commands) k ≡ some c → length (c .payload) ≤ 245
+command-small : (r : Receiver) (k : ℕ) (c : Command) → overLimit (stateOf r .tables .commands) ≡ false → valueAt (stateOf r .tables .commands) k ≡ some c → length (c .payload) ≤ keptLimit
 unfolding stateOf
 command-small r k c o v =
-    let i = firstOf (r .ckeys) (suc k) in
-    let values = commandIn (r .ctypes) (r .clengths) (r .cpayloads) in
-    by (ltb i (length (r .ckeys)))
-    (λ t. let h = ltb-true i (length (r .ckeys)) t in
-    let e : values i ≡ c = cc (valueAt-held values (r .ckeys) k h) in
-    let n : getD (r .clengths) i 0 ≤ 245 = held-small r k (sym (overLimit-places (r .ckeys) (r .ctypes) (r .clengths) (r .cpayloads)) ∙ o) h in
-    subst (λ (d : Command). length (d .payload) ≤ 245) e (simp length-take (omega arith)))
-    (λ t. absurd (let z : _≡_ {A = ℕ} 0 1 = cc (valueAt-none values (r .ckeys) k (ltb-false i (length (r .ckeys)) t)) in omega arith))
+    let i = firstOf (r .commands .keys) (suc k) in
+    let values = commandIn (r .commands .types) (r .commands .lengths) (r .commands .payloads) in
+    by (ltb i (length (r .commands .keys)))
+    (λ t. let h = ltb-true i (length (r .commands .keys)) t in
+    let e : values i ≡ c = cc (valueAt-held values (r .commands .keys) k h) in
+    let n : getD (r .commands .lengths) i 0 ≤ keptLimit = held-small r k (sym (overLimit-places (r .commands .keys) (r .commands .types) (r .commands .lengths) (r .commands .payloads)) ∙ o) h in
+    subst (λ (d : Command). length (d .payload) ≤ keptLimit) e (simp length-take (omega arith)))
+    (λ t. absurd (let z : _≡_ {A = ℕ} 0 1 = cc (valueAt-none values (r .commands .keys) k (ltb-false i (length (r .commands .keys)) t)) in omega arith))
 
 -- in a state that 12 does not refuse, the payload of a waiting command has at most 245 bytes; so it is in every state that arrays mean
 abbrev pub Small : State → Type 0
-Small s = overLimit (s .commands) ≡ false → (k : ℕ) (c : Command) → valueAt (s .commands) k ≡ some c → length (c .payload) ≤ 245
+Small s = overLimit (s .tables .commands) ≡ false → (k : ℕ) (c : Command) → valueAt (s .tables .commands) k ≡ some c → length (c .payload) ≤ keptLimit
 
 pub arrays-small : (r : Receiver) → Small (stateOf r)
 arrays-small r o k c v = command-small r k c o v

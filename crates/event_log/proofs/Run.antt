@@ -8,17 +8,18 @@ use native.Mathlib.Omega.{arith}
 use lib.ListN.{length, getD, set, replicate, length-drop}
 use lib.Dec.{eqb, ltb}
 use borrow.Author.Tests.{ltb-false}
+use Rattle.answers.specs.Stored.{keptLimit}
 use Rattle.laws.specs.Bytes.{Bytes}
 use Rattle.tables.specs.Places.{Place, free, held, holder, seat, valueIn, placesFrom}
 use Rattle.sound_record.specs.Record.{written}
 use Rattle.answers.specs.Types
 use Rattle.transport_receiver.specs.State.{State, Frame, Command, stateOf, fresh}
-use Rattle.transport_receiver.specs.Step.{Outcome, silent, event, Result, accepted, stepOf, resetOf, overLimit, keyOf, requestOf, Input, frame, reset}
+use Rattle.transport_receiver.specs.Step.{Outcome, silent, event, Result, accepted, stepOf, resetOf, overLimit, keyOf, requestOf, Input, frame, reset, eventOf}
 use Rattle.transport_receiver.proofs.Cases.{accepted-cases, judged-cases}
 use Rattle.transport_receiver.specs.Step as step
 use Rattle.laws.proofs.Cases.{by}
 use Rattle.event_log.specs.Records.{recordsIn, bytesOf, anyUnsound}
-use Rattle.event_log.specs.Answers.{eventOf, logOf}
+use Rattle.event_log.specs.Answers.{logOf}
 use Rattle.event_log.proofs.Came.{rowsOf}
 use Rattle.event_log.proofs.Every.{Small, every-sound}
 use Rattle.event_log.proofs.Log.{Holds, log-holds, none-unsound-append}
@@ -26,7 +27,7 @@ use Rattle.event_log.proofs.Log.{Holds, log-holds, none-unsound-append}
 -- every waiting command's payload has at most 245 bytes
 abbrev SmallAt : Place Command → Type 0
 SmallAt free = Unit {0}
-SmallAt (held k c) = length (c .payload) ≤ 245
+SmallAt (held k c) = length (c .payload) ≤ keptLimit
 
 abbrev AllSmall : List (Place Command) → Type 0
 AllSmall [] = Unit {0}
@@ -42,38 +43,38 @@ small-getD [] i a = tt
 small-getD (p ∷ ps) zero a = a .0
 small-getD (p ∷ ps) (suc i) a = small-getD ps i (a .1)
 
-small-value : (p : Place Command) (c : Command) → SmallAt p → valueIn p ≡ some c → length (c .payload) ≤ 245
+small-value : (p : Place Command) (c : Command) → SmallAt p → valueIn p ≡ some c → length (c .payload) ≤ keptLimit
 small-value free c a v = absurd (let z : _≡_ {A = ℕ} 0 1 = cc in omega arith)
 small-value (held k d) c a v = let e : d ≡ c = cc in rw (← e) a
 
-all-small : (s : State) → AllSmall (s .commands) → Small s
-all-small s a o k c v = small-value (getD (s .commands) (holder (s .commands) k) free) c (small-getD (s .commands) (holder (s .commands) k) a) v
+all-small : (s : State) → AllSmall (s .tables .commands) → Small s
+all-small s a o k c v = small-value (getD (s .tables .commands) (holder (s .tables .commands) k) free) c (small-getD (s .tables .commands) (holder (s .tables .commands) k) a) v
 
 free-small : (values : ℕ → Command) (i n : ℕ) → AllSmall (placesFrom values i (replicate n 0))
 unfolding placesFrom
 free-small values i zero = tt
 free-small values i (suc n) = (tt, free-small values (suc i) n)
 
-fresh-small : AllSmall (stateOf fresh .commands)
+fresh-small : AllSmall (stateOf fresh .tables .commands)
 unfolding stateOf
 fresh-small = free-small _ 0 64
 
-module _ (s : State) (a : AllSmall (s .commands)) (f : Frame) where
-  accepted-small : length (f .payload) ≤ 250 → AllSmall (accepted s f .state .commands)
+module _ (s : State) (a : AllSmall (s .tables .commands)) (f : Frame) where
+  accepted-small : length (f .payload) ≤ 250 → AllSmall (accepted s f .state .tables .commands)
   accepted-small l =
-      accepted-cases (λ (r : Result). AllSmall (r .state .commands)) s f
+      accepted-cases (λ (r : Result). AllSmall (r .state .tables .commands)) s f
       (λ e. a) (λ e. a)
-      (λ e. small-set (s .commands) (seat (s .commands) (keyOf f)) (held (keyOf f) (requestOf (f .payload))) a (simp length-drop (omega arith)))
-      (λ e. small-set (s .commands) (holder (s .commands) (keyOf f)) free a tt)
+      (λ e. small-set (s .tables .commands) (seat (s .tables .commands) (keyOf f)) (held (keyOf f) (requestOf (f .payload))) a (simp length-drop (omega arith)))
+      (λ e. small-set (s .tables .commands) (holder (s .tables .commands) (keyOf f)) free a tt)
       (λ o i e. a)
 
-  step-small : AllSmall (stepOf s f .state .commands)
+  step-small : AllSmall (stepOf s f .state .tables .commands)
   unfolding stepOf
   step-small =
-      by (overLimit (s .commands)) (λ t. rw t a)
+      by (overLimit (s .tables .commands)) (λ t. rw t a)
       (λ t1. by (ltb 0x7fff (f .gateway)) (λ t. rw (t1, t) a)
       (λ t2. by (ltb 250 (length (f .payload))) (λ t. rw (t1, t2, t) a)
-      (λ t3. judged-cases (λ (r : Result). AllSmall (r .state .commands)) s f (λ r. a) (accepted-small (ltb-false 250 (length (f .payload)) t3)) (rowsOf s f))))
+      (λ t3. judged-cases (λ (r : Result). AllSmall (r .state .tables .commands)) s f (λ r. a) (accepted-small (ltb-false 250 (length (f .payload)) t3)) (rowsOf s f))))
 
   one-sound : Bytes (f .payload) → (o : Outcome) → stepOf s f .outcome ≡ o → anyUnsound (recordsIn (eventOf o)) ≡ false
   one-sound b (step.refused n) e = refl
@@ -82,13 +83,13 @@ module _ (s : State) (a : AllSmall (s .commands)) (f : Frame) where
   one-sound b (event x) e = every-sound s (all-small s a) f b x e .1
 
 -- a reset gives no record, and touches no table
-reset-small : (s : State) → AllSmall (s .commands) → AllSmall (resetOf s .state .commands)
+reset-small : (s : State) → AllSmall (s .tables .commands) → AllSmall (resetOf s .state .tables .commands)
 unfolding resetOf
-reset-small s a = by (overLimit (s .commands)) (λ e. rw e a) (λ e. rw e a)
+reset-small s a = by (overLimit (s .tables .commands)) (λ e. rw e a) (λ e. rw e a)
 
 reset-silent : (s : State) → recordsIn (eventOf (resetOf s .outcome)) ≡ []
 unfolding resetOf
-reset-silent s = by (overLimit (s .commands)) (λ e. rw e) (λ e. rw e)
+reset-silent s = by (overLimit (s .tables .commands)) (λ e. rw e) (λ e. rw e)
 
 -- frames of bytes
 abbrev pub AllBytes : List Input → Type 0
@@ -96,7 +97,7 @@ AllBytes [] = Unit {0}
 AllBytes (frame f ∷ is) = Bytes (f .payload) × AllBytes is
 AllBytes (reset ∷ is) = AllBytes is
 
-log-sound : (s : State) → AllSmall (s .commands) → (is : List Input) → AllBytes is → anyUnsound (logOf s is) ≡ false
+log-sound : (s : State) → AllSmall (s .tables .commands) → (is : List Input) → AllBytes is → anyUnsound (logOf s is) ≡ false
 log-sound s a [] b = refl
 log-sound s a (reset ∷ is) b = rw (reset-silent s) (log-sound (resetOf s .state) (reset-small s a) is b)
 log-sound s a (frame f ∷ fs) b =

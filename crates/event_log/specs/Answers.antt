@@ -2,11 +2,11 @@
 use Prim.Native.Nat.{ℕ, _-_}
 use mathlib.Core.Bool.{cond}
 use mathlib.Core.List.{List, [], _∷_, _++_}
-use mathlib.Core.Option.{Option, none, some}
+use mathlib.Core.Option.{Option}
 use lib.Dec.{ltb}
 use Rattle.transport_receiver.specs.Handed.{outcomeOf}
 use Rattle.transport_receiver.specs.Lent.{requestPayload}
-use Rattle.transport_receiver.specs.Step.{Event, Outcome, refused, refused-with, silent, event, Input, takenOf}
+use Rattle.transport_receiver.specs.Step.{Event, eventOf, Input, takenOf}
 use Rattle.transport_receiver.specs.State.{State, Frame}
 use Rattle.answers.specs.declared.Answer.{Answer}
 use Rattle.answers.specs.declared.said.Said.{Said}
@@ -14,13 +14,6 @@ use Rattle.answers.specs.Said.{saidOf}
 use Rattle.event_log.specs.Records.{Entry, recordsIn}
 use Rattle.event_log.specs.declared.Room.{Room}
 use Rattle.event_log.specs.declared.Room.the-variants.{Left, Short}
-
--- the event of what 01's step hands back, if it has one
-abbrev pub eventOf : Outcome → Option Event
-eventOf (refused n) = none
-eventOf (refused-with n value) = none
-eventOf silent = none
-eventOf (event e) = some e
 
 -- the event, of a frame of a gateway and the pool of the state after the step. Of a made-up answer it is what is there: an area past the payload
 -- is empty, a long address has the bytes that the payload has of eight, and at no place of the pool stands an empty request (`requestPayload`)

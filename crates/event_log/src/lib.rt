@@ -18,6 +18,7 @@ use event_record::Recorded;
 use network::Found;
 use sound_record::BODY_AT;
 use transport_receiver::Answer;
+use transport_receiver::POOL;
 
 // How many bytes the record of kind 6 has.
 const SLOT_SIZE: usize = 9;
@@ -140,7 +141,7 @@ fn slots(out: &mut [u8], gateway: GatewayID, counter: u16, repeat: bool, area: &
 // Writes the records of an answer to a frame of a gateway, as `write` does, which asks for 13 of that gateway before.
 fn write_event(
     out: &mut [u8],
-    cpayloads: &[u8; 15680],
+    cpayloads: &[u8; POOL],
     id: GatewayID,
     payload: &[u8],
     answer: Answer,
@@ -182,7 +183,7 @@ fn write_event(
 // An answer with no event writes 0 bytes.
 pub fn write(
     out: &mut [u8],
-    cpayloads: &[u8; 15680],
+    cpayloads: &[u8; POOL],
     address: Address,
     payload: &[u8],
     answer: Answer,

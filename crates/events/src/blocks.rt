@@ -4,6 +4,7 @@ use console::Out;
 use event_record::Recorded;
 use link_feed::lending::feed_from;
 use link_receive::Answer;
+use transport_receiver::POOL;
 
 // The room that a step's records are given: `answer-fits` of crates/event_log says that 512 bytes hold them.
 const ROOM: usize = 1024;
@@ -12,7 +13,7 @@ const ROOM: usize = 1024;
 fn put_records(
     out: &mut [u8],
     at: usize,
-    cpayloads: &[u8; 15680],
+    cpayloads: &[u8; POOL],
     address: Address,
     payload: &[u8],
     answer: transport_receiver::Answer,
@@ -34,7 +35,7 @@ fn logged(
     out: &mut [u8],
     o: Out,
     asked: bool,
-    cpayloads: &[u8; 15680],
+    cpayloads: &[u8; POOL],
     address: Address,
     payload: &[u8],
     answer: transport_receiver::Answer,
@@ -60,8 +61,8 @@ fn take_answer(
     sequences: &mut [u8; 32],
     ckeys: &mut [u32; 64],
     ctypes: &mut [u8; 64],
-    clengths: &mut [u8; 64],
-    cpayloads: &mut [u8; 15680],
+    clengths: &mut [u16; 64],
+    cpayloads: &mut [u8; POOL],
     counters: &mut [u64; 33],
     out: &mut [u8],
     o: Out,
@@ -103,8 +104,8 @@ pub fn take_block(
     sequences: &mut [u8; 32],
     ckeys: &mut [u32; 64],
     ctypes: &mut [u8; 64],
-    clengths: &mut [u8; 64],
-    cpayloads: &mut [u8; 15680],
+    clengths: &mut [u16; 64],
+    cpayloads: &mut [u8; POOL],
     counters: &mut [u64; 33],
     out: &mut [u8],
     asked: bool,

@@ -6,6 +6,7 @@ use books::Telling;
 use console::Out;
 use counters::print_counters;
 use link_receive::numbered::receiver_at;
+use transport_receiver::POOL;
 
 mod blocks;
 mod counters;
@@ -58,8 +59,8 @@ fn take_input(fd: i32, name: &[u8], log: bool, buf: &mut [u8], out: &mut [u8]) {
     let mut sequences = [0u8; 32];
     let mut ckeys = [0u32; 64];
     let mut ctypes = [0u8; 64];
-    let mut clengths = [0u8; 64];
-    let mut cpayloads = [0u8; 15680];
+    let mut clengths = [0u16; 64];
+    let mut cpayloads = [0u8; POOL];
     let mut counters = [0u64; 33];
     let mut turns = u64::MAX;
     while turns > 0 {

@@ -498,7 +498,7 @@ pub transport-receiver·Receiver·reset-counters : Determined 0 transport-receiv
 transport-receiver·Receiver·reset-counters κs a x y u v p q = (p .0 ∙ sym (q .0), refl)
 
 pub transport-receiver·step-in : Determined 10 transport-receiver·step-in·kinds.ps transport-receiver·step-in·kinds.r transport-receiver·step-in·reads.Learnt
-transport-receiver·step-in κs a x y u v p q = (ap (λ (s : Stepped). s .answer) (p .0 ∙ sym (q .0)), ap (λ (s : Stepped). (at-last (a .0) (s .receiver .nkeys), (at-last (a .1 .0) (s .receiver .numbers), (at-last (a .1 .1 .0) (s .receiver .skeys), (at-last (a .1 .1 .1 .0) (s .receiver .sequences), (at-last (a .1 .1 .1 .1 .0) (s .receiver .ckeys), (at-last (a .1 .1 .1 .1 .1 .0) (s .receiver .ctypes), (at-last (a .1 .1 .1 .1 .1 .1 .0) (s .receiver .clengths), (at-last (a .1 .1 .1 .1 .1 .1 .1 .0) (s .receiver .cpayloads), (at-last (a .1 .1 .1 .1 .1 .1 .1 .1 .0) (s .receiver .counters), (a .1 .1 .1 .1 .1 .1 .1 .1 .1 .0, (a .1 .1 .1 .1 .1 .1 .1 .1 .1 .1 .0, (a .1 .1 .1 .1 .1 .1 .1 .1 .1 .1 .1 .0, tt))))))))))))) (p .0 ∙ sym (q .0)))
+transport-receiver·step-in κs a x y u v p q = (ap (λ (s : Stepped). s .answer) (p .0 ∙ sym (q .0)), ap (λ (s : Stepped). (at-last (a .0) (s .receiver .numbers .keys), (at-last (a .1 .0) (s .receiver .numbers .values), (at-last (a .1 .1 .0) (s .receiver .sequences .keys), (at-last (a .1 .1 .1 .0) (s .receiver .sequences .values), (at-last (a .1 .1 .1 .1 .0) (s .receiver .commands .keys), (at-last (a .1 .1 .1 .1 .1 .0) (s .receiver .commands .types), (at-last (a .1 .1 .1 .1 .1 .1 .0) (s .receiver .commands .lengths), (at-last (a .1 .1 .1 .1 .1 .1 .1 .0) (s .receiver .commands .payloads), (at-last (a .1 .1 .1 .1 .1 .1 .1 .1 .0) (s .receiver .counters), (a .1 .1 .1 .1 .1 .1 .1 .1 .1 .0, (a .1 .1 .1 .1 .1 .1 .1 .1 .1 .1 .0, (a .1 .1 .1 .1 .1 .1 .1 .1 .1 .1 .1 .0, tt))))))))))))) (p .0 ∙ sym (q .0)))
 
 pub transport-receiver·reset-in : Determined 3 transport-receiver·reset-in·kinds.ps transport-receiver·reset-in·kinds.r transport-receiver·reset-in·reads.Learnt
 transport-receiver·reset-in κs a x y u v p q = (p .0 ∙ sym (q .0), ap (λ (n : List ℕ). (a .0, (a .1 .0, (at-last (a .1 .1 .0) n, tt)))) (p .1 ∙ sym (q .1)))

@@ -30,14 +30,14 @@ pub fn seat(keys: &[u32], key: u32) -> usize
 }
 
 // The length at a place, and 0 past the end.
-fn length_at(lengths: &[u8], i: usize) -> u8
+fn length_at(lengths: &[u16], i: usize) -> u16
     ensures { λ r. ⌜ r ≡ getD (now (lengths .entry)) i 0 ⌝ }
 {
     if i < lengths.len() { lengths[i] } else { 0 }
 }
 
 // Whether a length is over the limit, at whatever place.
-fn any_over(lengths: &[u8], limit: u8) -> bool
+fn any_over(lengths: &[u16], limit: u16) -> bool
     ensures { λ r. ⌜ r ≡ anyOver (now (lengths .entry)) limit ⌝ }
 {
     let mut found = false;
@@ -52,7 +52,7 @@ fn any_over(lengths: &[u8], limit: u8) -> bool
 }
 
 // Whether a held place has a length over the limit; what stands at a free place never matters.
-pub fn over(keys: &[u32], lengths: &[u8], limit: u8) -> bool
+pub fn over(keys: &[u32], lengths: &[u16], limit: u16) -> bool
     ensures { λ r. ⌜ r ≡ overOf (now (keys .entry)) (now (lengths .entry)) limit ⌝ }
 {
     // Lengths are seldom over the limit: the keys are looked at only then.

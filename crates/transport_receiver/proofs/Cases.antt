@@ -17,7 +17,7 @@ use Rattle.transport_receiver.specs.Step.{Outcome, isRefusal, Result, Ro
 module _ (P : Result → Type 0) (s : State) (f : Frame) where
   pub accepted-cases :
       (f .frameType ≡ Types.receive-request → P (captured s f))
-      → (f .frameType ≡ Types.receive-response → P (received s f (numberIn (valueAt (s .numbers) (f .gateway))) (drop (neededOf (statusOf f)) (f .payload))))
+      → (f .frameType ≡ Types.receive-response → P (received s f (numberIn (valueAt (s .tables .numbers) (f .gateway))) (drop (neededOf (statusOf f)) (f .payload))))
       → (f .frameType ≡ Types.command-request → P (kept s f))
       → (f .frameType ≡ Types.command-response → P (executed s f))
       → ((o : Outcome) (i : ℕ) → isRefusal o ≡ false → P (counted s o i))

@@ -8,11 +8,12 @@ use lib.ListN.{length, getD, set, take, drop, length-take, length-drop, length-a
 use lib.Seq.{paste, length-paste, drop-paste, take-paste, getD-take, getD-drop, getD-set-same, getD-set-other, take-all, take-length, length-take-le, drop-at, take-at, drop-drop, ext-getD}
 use lib.Dec.{eqb, ltb}
 use borrow.Author.Tests.{eqb-true, eqb-false, eq-eqb, ne-eqb, lt-ltb, le-ltb, ltb-true, ltb-false}
+use Rattle.answers.specs.Stored.{keptLimit, stride, poolSize}
 use Rattle.laws.proofs.Cases.{by}
 use Rattle.tables.specs.Keys.{firstOf, seatOf, overOf}
 use Rattle.tables.specs.Places.{Place, free, held, placeOf, placesFrom, placesOf, stored}
 use Rattle.tables.proofs.Places.{stored-places}
-use Rattle.transport_receiver.specs.State.{Command, commandIn, payloadAt, roomOfCommand}
+use Rattle.transport_receiver.specs.State.{Command, commandIn, payloadAt}
 use Rattle.transport_receiver.specs.Step.{isOver, overLimit}
 use Rattle.transport_receiver.specs.Lent.{requestPayload}
 
@@ -56,19 +57,19 @@ module _ (d : List ℕ) (at : ℕ) (s : List ℕ) (n : ℕ) (fits : at + n ≤ l
           ∙ sym (getD-take size (drop from d) i 0 b)
 
 -- a payload kept at a place changes no other place's payload, as long as lengths are within their room
-module _ (pool : List ℕ) (i : ℕ) (q : List ℕ) (sized : length pool ≡ 15680) (place : i < 64) (few : length q ≤ 245) where
+module _ (pool : List ℕ) (i : ℕ) (q : List ℕ) (sized : length pool ≡ poolSize) (place : i < 64) (few : length q ≤ keptLimit) where
   abbrev kept : List ℕ
-  kept = paste pool (i * 245) q (length q)
+  kept = paste pool (i * stride) q (length q)
 
   payload-same : payloadAt kept i (length q) ≡ q
-  payload-same = taken-paste pool (i * 245) q (length q) (omega arith) (omega arith) ∙ take-length q
+  payload-same = taken-paste pool (i * stride) q (length q) (omega arith) (omega arith) ∙ take-length q
 
-  payload-other : (j size : ℕ) → (j ≡ i → ⊥) → size ≤ 245 → payloadAt kept j size ≡ payloadAt pool j size
-  payload-other j size ne small = part-paste pool (i * 245) q (length q) (omega arith) (omega arith) (j * 245) size (λ m a b. apart m a b (ltb j i) refl)
+  payload-other : (j size : ℕ) → (j ≡ i → ⊥) → size ≤ keptLimit → payloadAt kept j size ≡ payloadAt pool j size
+  payload-other j size ne small = part-paste pool (i * stride) q (length q) (omega arith) (omega arith) (j * stride) size (λ m a b. apart m a b (ltb j i) refl)
     where
-      apart : (m : ℕ) → j * 245 ≤ m → m < j * 245 + size → (t : Bool) → ltb j i ≡ t → getD kept m 0 ≡ getD pool m 0
-      apart m a b true e = getD-paste-before pool (i * 245) q (length q) (omega arith) (omega arith) m (omega (arith, ltb-true j i e))
-      apart m a b false e = getD-paste-behind pool (i * 245) q (length q) (omega arith) (omega arith) m (omega (arith, ltb-false j i e))
+      apart : (m : ℕ) → j * stride ≤ m → m < j * stride + size → (t : Bool) → ltb j i ≡ t → getD kept m 0 ≡ getD pool m 0
+      apart m a b true e = getD-paste-before pool (i * stride) q (length q) (omega arith) (omega arith) m (omega (arith, ltb-true j i e))
+      apart m a b false e = getD-paste-behind pool (i * stride) q (length q) (omega arith) (omega arith) m (omega (arith, ltb-false j i e))
 
 -- no held place is over the limit: then each is within it
 next : (j : ℕ) → suc j ≡ 1 + j
@@ -89,20 +90,20 @@ held-low (k ∷ ks) lengths limit e (suc j) h ne = rest (not (eqb k 0) && ltb li
     rest false b r = rw (ap (λ (n : ℕ). getD lengths n 0) (next j)) (rw (getD-drop 1 lengths j 0) at (r b))
 
 -- what 12 asks of the table is what the arrays are searched for
-overLimit-from : (types lengths pool : List ℕ) (b : ℕ) (keys : List ℕ) → overLimit (placesFrom (commandIn types lengths pool) b keys) ≡ overOf keys (drop b lengths) 245
+overLimit-from : (types lengths pool : List ℕ) (b : ℕ) (keys : List ℕ) → overLimit (placesFrom (commandIn types lengths pool) b keys) ≡ overOf keys (drop b lengths) keptLimit
 unfolding overLimit overOf placesFrom
 overLimit-from types lengths pool b [] = refl
 overLimit-from types lengths pool b (k ∷ ks) =
     rw (overLimit-from types lengths pool (suc b) ks, here k, getD-drop b lengths 0 0, drop-drop 1 b lengths) (ends (b + 0) (omega arith) (b + 1) (omega arith))
   where
-    here : (k : ℕ) → isOver (placeOf k (commandIn types lengths pool b)) ≡ (not (eqb k 0) && ltb 245 (getD lengths b 0))
+    here : (k : ℕ) → isOver (placeOf k (commandIn types lengths pool b)) ≡ (not (eqb k 0) && ltb keptLimit (getD lengths b 0))
     here zero = refl
     here (suc j) = rw (ne-eqb (suc j) 0 (λ e. omega arith))
 
-    ends : (x : ℕ) → x ≡ b → (y : ℕ) → y ≡ suc b → cond (not (eqb k 0) && ltb 245 (getD lengths b 0)) true (overOf ks (drop (suc b) lengths) 245) ≡ cond (not (eqb k 0) && ltb 245 (getD lengths x 0)) true (overOf ks (drop y lengths) 245)
+    ends : (x : ℕ) → x ≡ b → (y : ℕ) → y ≡ suc b → cond (not (eqb k 0) && ltb keptLimit (getD lengths b 0)) true (overOf ks (drop (suc b) lengths) keptLimit) ≡ cond (not (eqb k 0) && ltb keptLimit (getD lengths x 0)) true (overOf ks (drop y lengths) keptLimit)
     ends x e y f = rw (e, f)
 
-pub overLimit-places : (keys types lengths pool : List ℕ) → overLimit (placesOf keys (commandIn types lengths pool)) ≡ overOf keys lengths 245
+pub overLimit-places : (keys types lengths pool : List ℕ) → overLimit (placesOf keys (commandIn types lengths pool)) ≡ overOf keys lengths keptLimit
 overLimit-places keys types lengths pool = overLimit-from types lengths pool 0 keys
 
 -- a key that is not 0 stands at a place
@@ -110,24 +111,24 @@ inside : (l : List ℕ) (j : ℕ) → (getD l j 0 ≡ 0 → ⊥) → j < length 
 inside l j n = by (ltb j (length l)) (λ e. ltb-true _ _ e) (λ e. absurd (n (List·getD-eq-default l 0 (ltb-false _ _ e))))
 
 -- a command put at its seat in the arrays is stored in the table
-module _ (keys types lengths pool : List ℕ) (k t : ℕ) (q : List ℕ) (tn : length types ≡ 64) (ln : length lengths ≡ 64) (pn : length pool ≡ 15680) (kn : length keys ≡ 64) where
+module _ (keys types lengths pool : List ℕ) (k t : ℕ) (q : List ℕ) (tn : length types ≡ 64) (ln : length lengths ≡ 64) (pn : length pool ≡ poolSize) (kn : length keys ≡ 64) where
   abbrev i : ℕ
   i = seatOf keys (suc k)
 
   abbrev command : Command
   command = record { packetType = t; size = length q; payload = q }
 
-  pub stored-commands : overOf keys lengths 245 ≡ false → seatOf keys (suc k) < 64 → length q ≤ 245 → placesOf (set keys i (suc k)) (commandIn (set types i t) (set lengths i (length q)) (paste pool (i * 245) q (length q))) ≡ stored (placesOf keys (commandIn types lengths pool)) k command
-  stored-commands within place few = stored-places (commandIn types lengths pool) (commandIn (set types i t) (set lengths i (length q)) (paste pool (i * 245) q (length q))) keys k command same other
+  pub stored-commands : overOf keys lengths keptLimit ≡ false → seatOf keys (suc k) < 64 → length q ≤ keptLimit → placesOf (set keys i (suc k)) (commandIn (set types i t) (set lengths i (length q)) (paste pool (i * stride) q (length q))) ≡ stored (placesOf keys (commandIn types lengths pool)) k command
+  stored-commands within place few = stored-places (commandIn types lengths pool) (commandIn (set types i t) (set lengths i (length q)) (paste pool (i * stride) q (length q))) keys k command same other
     where
-      same : commandIn (set types i t) (set lengths i (length q)) (paste pool (i * 245) q (length q)) i ≡ command
+      same : commandIn (set types i t) (set lengths i (length q)) (paste pool (i * stride) q (length q)) i ≡ command
       same = rw (getD-set-same types i t 0 (omega arith), getD-set-same lengths i (length q) 0 (omega arith), payload-same pool i q pn place few)
 
-      other : (j : ℕ) → (j ≡ i → ⊥) → (getD keys j 0 ≡ 0 → ⊥) → commandIn (set types i t) (set lengths i (length q)) (paste pool (i * 245) q (length q)) j ≡ commandIn types lengths pool j
+      other : (j : ℕ) → (j ≡ i → ⊥) → (getD keys j 0 ≡ 0 → ⊥) → commandIn (set types i t) (set lengths i (length q)) (paste pool (i * stride) q (length q)) j ≡ commandIn types lengths pool j
       other j ne full =
-          rw (getD-set-other types i j t 0 ne, getD-set-other lengths i j (length q) 0 ne, payload-other pool i q pn place few j (getD lengths j 0) ne (held-low keys lengths 245 within j (inside keys j full) full))
+          rw (getD-set-other types i j t 0 ne, getD-set-other lengths i j (length q) 0 ne, payload-other pool i q pn place few j (getD lengths j 0) ne (held-low keys lengths keptLimit within j (inside keys j full) full))
 
 -- what `request_payload` gives is the payload that the tables hold, for every place and every length that a state within its limits has
-pub requestPayload-held : (pool : List ℕ) (place size : ℕ) → place < 64 → size ≤ 245 → requestPayload pool place size ≡ payloadAt pool place size
+pub requestPayload-held : (pool : List ℕ) (place size : ℕ) → place < 64 → size ≤ keptLimit → requestPayload pool place size ≡ payloadAt pool place size
 unfolding requestPayload
-requestPayload-held pool place size p n = rw (lt-ltb place 64 p, le-ltb 245 size n)
+requestPayload-held pool place size p n = rw (lt-ltb place 64 p, le-ltb keptLimit size n)

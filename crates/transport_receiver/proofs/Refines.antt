@@ -20,7 +20,7 @@ use Rattle.address.specs.Address.{addressOf}
 use Rattle.answers.specs.Counters
 use Rattle.answers.specs.Types
 use Rattle.answers.specs.Types.{counterOf}
-use Rattle.answers.specs.Stored.{commandKey}
+use Rattle.answers.specs.Stored.{commandKey, keptLimit, poolSize}
 use Rattle.receive_frames.specs.Receive.{capturedIn, receiveRequestIn, answeredIn, receiveResponseIn, goodIn}
 use Rattle.command_frames.specs.Command.{isLastIn, noteIn, keepIn, askedIn, commandRequestIn, finishedIn, commandResponseIn}
 use Rattle.plain_frames.specs.Plain.{identityIn, enumerationEndIn, versionIn, enumerationStartIn, countIn, byTypeIn, untabledIn}
@@ -34,14 +34,14 @@ use Rattle.laws.proofs.Cases.{by}
 
 -- the arrays' lengths, as their types have them
 pub record Sized (r : Receiver) : Type 0 where
-  pub nkeys : length (r .nkeys) ≡ 32
-  pub numbers : length (r .numbers) ≡ 32
-  pub skeys : length (r .skeys) ≡ 32
-  pub sequences : length (r .sequences) ≡ 32
-  pub ckeys : length (r .ckeys) ≡ 64
-  pub ctypes : length (r .ctypes) ≡ 64
-  pub clengths : length (r .clengths) ≡ 64
-  pub cpayloads : length (r .cpayloads) ≡ 15680
+  pub nkeys : length (r .numbers .keys) ≡ 32
+  pub numbers : length (r .numbers .values) ≡ 32
+  pub skeys : length (r .sequences .keys) ≡ 32
+  pub sequences : length (r .sequences .values) ≡ 32
+  pub ckeys : length (r .commands .keys) ≡ 64
+  pub ctypes : length (r .commands .types) ≡ 64
+  pub clengths : length (r .commands .lengths) ≡ 64
+  pub cpayloads : length (r .commands .payloads) ≡ poolSize
   pub counters : length (r .counters) ≡ 33
 
 abbrev frame : Bool → ℕ → ℕ → List ℕ → Frame
@@ -97,67 +97,67 @@ module _ (r : Receiver) (from : Bool) (g : ℕ) (p : List ℕ) where
       (λ l. rw (e, z, l)))
       (λ z. rw (e, z)))
 
-  receive-request : Sized r → told (frame from g Types.receive-request p) (afterAsked r (capturedIn (r .nkeys) (r .numbers) (r .counters) from g p)) ≡ handledOf (stateOf r) (frame from g Types.receive-request p)
+  receive-request : Sized r → told (frame from g Types.receive-request p) (afterAsked r (capturedIn (r .numbers .keys) (r .numbers .values) (r .counters) from g p)) ≡ handledOf (stateOf r) (frame from g Types.receive-request p)
   unfolding handledOf capturedIn stateOf
   receive-request z =
       by from (λ e. rw e)
       (λ e. by (eqb (length p) 5)
-      (λ l. by (ltb (seatOf (r .nkeys) (suc g)) 32)
-      (λ t. rw (e, l, hasRoom-places (λ i. getD (r .numbers) i 0) (r .nkeys) g, z .nkeys, t) (rw (stored-numbers (r .nkeys) (r .numbers) g (be16At p 2) (z .numbers ∙ sym (z .nkeys)) (rw (z .nkeys) (ltb-true _ _ t)))))
-      (λ t. rw (e, l, hasRoom-places (λ i. getD (r .numbers) i 0) (r .nkeys) g, z .nkeys, t)))
+      (λ l. by (ltb (seatOf (r .numbers .keys) (suc g)) 32)
+      (λ t. rw (e, l, hasRoom-places (λ i. getD (r .numbers .values) i 0) (r .numbers .keys) g, z .nkeys, t) (rw (stored-numbers (r .numbers .keys) (r .numbers .values) g (be16At p 2) (z .numbers ∙ sym (z .nkeys)) (rw (z .nkeys) (ltb-true _ _ t)))))
+      (λ t. rw (e, l, hasRoom-places (λ i. getD (r .numbers .values) i 0) (r .numbers .keys) g, z .nkeys, t)))
       (λ l. rw (e, l)))
 
   abbrev q : ℕ
-  q = seatOf (r .skeys) (suc g)
+  q = seatOf (r .sequences .keys) (suc g)
 
   abbrev key : ℕ
   key = commandKey g (getD p 4 0)
 
-  command-request : Sized r → overOf (r .ckeys) (r .clengths) 245 ≡ false → length p ≤ 250 → told (frame from g Types.command-request p) (afterRequested r (askedIn (notedOf r) (seatedOf r) from g p)) ≡ handledOf (stateOf r) (frame from g Types.command-request p)
+  command-request : Sized r → overOf (r .commands .keys) (r .commands .lengths) keptLimit ≡ false → length p ≤ 250 → told (frame from g Types.command-request p) (afterRequested r (askedIn (notedOf r) (seatedOf r) from g p)) ≡ handledOf (stateOf r) (frame from g Types.command-request p)
   unfolding handledOf askedIn noteIn keepIn stateOf
   command-request z within few =
-      let hs = hasRoom-places (λ i. getD (r .sequences) i 0) (r .skeys) g in
-      let hc = hasRoom-places (commandIn (r .ctypes) (r .clengths) (r .cpayloads)) (r .ckeys) key in
-      let kept-command : ltb (seatOf (r .ckeys) (suc key)) 64 ≡ true → _ = λ b. stored-commands (r .ckeys) (r .ctypes) (r .clengths) (r .cpayloads) key (getD p 3 0) (drop 5 p) (z .ctypes) (z .clengths) (z .cpayloads) (z .ckeys) within (ltb-true _ _ b) (omega (arith, length-drop 5 p)) in
+      let hs = hasRoom-places (λ i. getD (r .sequences .values) i 0) (r .sequences .keys) g in
+      let hc = hasRoom-places (commandIn (r .commands .types) (r .commands .lengths) (r .commands .payloads)) (r .commands .keys) key in
+      let kept-command : ltb (seatOf (r .commands .keys) (suc key)) 64 ≡ true → _ = λ b. stored-commands (r .commands .keys) (r .commands .types) (r .commands .lengths) (r .commands .payloads) key (getD p 3 0) (drop 5 p) (z .ctypes) (z .clengths) (z .cpayloads) (z .ckeys) within (ltb-true _ _ b) (omega (arith, length-drop 5 p)) in
       by from (λ e. rw e)
       (λ e. by (ltb (length p) 5) (λ l. rw (e, l))
       (λ l. by (ltb q 32)
-      (λ a. by (ltb (seatOf (r .ckeys) (suc key)) 64)
-      (λ b. by (isLastIn (r .skeys) (r .sequences) q (suc g) (getD p 4 0))
-      (λ t. rw (e, l, hs, z .skeys, a, hc, z .ckeys, b, last (r .skeys) (r .sequences) g (getD p 4 0) (rw (z .skeys) (ltb-true _ _ a)), t) (rw (← stored-again (r .skeys) (r .sequences) g (getD p 4 0) (z .sequences ∙ sym (z .skeys)) (last-parts (r .skeys) (r .sequences) g (getD p 4 0) t .0) (last-parts (r .skeys) (r .sequences) g (getD p 4 0) t .1) (rw (z .skeys) (ltb-true _ _ a)), kept-command b)))
-      (λ t. rw (e, l, hs, z .skeys, a, hc, z .ckeys, b, last (r .skeys) (r .sequences) g (getD p 4 0) (rw (z .skeys) (ltb-true _ _ a)), t) (rw (stored-numbers (r .skeys) (r .sequences) g (getD p 4 0) (z .sequences ∙ sym (z .skeys)) (rw (z .skeys) (ltb-true _ _ a)), kept-command b))))
+      (λ a. by (ltb (seatOf (r .commands .keys) (suc key)) 64)
+      (λ b. by (isLastIn (r .sequences .keys) (r .sequences .values) q (suc g) (getD p 4 0))
+      (λ t. rw (e, l, hs, z .skeys, a, hc, z .ckeys, b, last (r .sequences .keys) (r .sequences .values) g (getD p 4 0) (rw (z .skeys) (ltb-true _ _ a)), t) (rw (← stored-again (r .sequences .keys) (r .sequences .values) g (getD p 4 0) (z .sequences ∙ sym (z .skeys)) (last-parts (r .sequences .keys) (r .sequences .values) g (getD p 4 0) t .0) (last-parts (r .sequences .keys) (r .sequences .values) g (getD p 4 0) t .1) (rw (z .skeys) (ltb-true _ _ a)), kept-command b)))
+      (λ t. rw (e, l, hs, z .skeys, a, hc, z .ckeys, b, last (r .sequences .keys) (r .sequences .values) g (getD p 4 0) (rw (z .skeys) (ltb-true _ _ a)), t) (rw (stored-numbers (r .sequences .keys) (r .sequences .values) g (getD p 4 0) (z .sequences ∙ sym (z .skeys)) (rw (z .skeys) (ltb-true _ _ a)), kept-command b))))
       (λ b. rw (e, l, hs, z .skeys, a, hc, z .ckeys, b)))
       (λ a. rw (e, l, hs, z .skeys, a))))
 
-  command-response : Sized r → told (frame from g Types.command-response p) (afterAnswered r (finishedIn (r .ckeys) (r .ctypes) (r .clengths) (r .counters) from g p)) ≡ handledOf (stateOf r) (frame from g Types.command-response p)
+  command-response : Sized r → told (frame from g Types.command-response p) (afterAnswered r (finishedIn (r .commands .keys) (r .commands .types) (r .commands .lengths) (r .counters) from g p)) ≡ handledOf (stateOf r) (frame from g Types.command-response p)
   unfolding handledOf finishedIn stateOf
   command-response z =
-      let hc = isHeld-places (commandIn (r .ctypes) (r .clengths) (r .cpayloads)) (r .ckeys) key in
+      let hc = isHeld-places (commandIn (r .commands .types) (r .commands .lengths) (r .commands .payloads)) (r .commands .keys) key in
       by from
       (λ e. by (ltb (length p) 5) (λ l. rw (e, l))
-      (λ l. by (ltb (firstOf (r .ckeys) (suc key)) 64)
-      (λ t. rw (e, l, hc, z .ckeys, t) (rw (removed-places (commandIn (r .ctypes) (r .clengths) (r .cpayloads)) (r .ckeys) key, valueAt-held (commandIn (r .ctypes) (r .clengths) (r .cpayloads)) (r .ckeys) key (rw (z .ckeys) (ltb-true _ _ t)))))
+      (λ l. by (ltb (firstOf (r .commands .keys) (suc key)) 64)
+      (λ t. rw (e, l, hc, z .ckeys, t) (rw (removed-places (commandIn (r .commands .types) (r .commands .lengths) (r .commands .payloads)) (r .commands .keys) key, valueAt-held (commandIn (r .commands .types) (r .commands .lengths) (r .commands .payloads)) (r .commands .keys) key (rw (z .ckeys) (ltb-true _ _ t)))))
       (λ t. rw (e, l, hc, z .ckeys, t))))
       (λ e. rw e)
 
-  receive-response : Sized r → told (frame from g Types.receive-response p) (afterReceived r (answeredIn (r .nkeys) (r .numbers) (r .counters) from g p)) ≡ handledOf (stateOf r) (frame from g Types.receive-response p)
+  receive-response : Sized r → told (frame from g Types.receive-response p) (afterReceived r (answeredIn (r .numbers .keys) (r .numbers .values) (r .counters) from g p)) ≡ handledOf (stateOf r) (frame from g Types.receive-response p)
   unfolding handledOf answeredIn receiveReadOf responseIn goodIn stateOf
   receive-response z =
-      let i = firstOf (r .nkeys) (suc g) in
-      let hn = isHeld-places (λ i. getD (r .numbers) i 0) (r .nkeys) g in
+      let i = firstOf (r .numbers .keys) (suc g) in
+      let hn = isHeld-places (λ i. getD (r .numbers .values) i 0) (r .numbers .keys) g in
       by from
-      (λ e. by (ltb (firstOf (r .nkeys) (suc g)) 32)
+      (λ e. by (ltb (firstOf (r .numbers .keys) (suc g)) 32)
       (λ t. by (ltb (length p) 2) (λ l. rw (e, hn, z .nkeys, t, l))
       (λ l. by (acceptedOf (be16At p 0))
       (λ a. by (ltb (length p) (neededOf (be16At p 0)))
       (λ n. rw (e, hn, z .nkeys, t, l, a, n))
-      (λ n. rw (e, valueAt-held (λ i. getD (r .numbers) i 0) (r .nkeys) g (rw (z .nkeys) (ltb-true _ _ t)), ← replaced-numbers (r .nkeys) (r .numbers) g (numberOf (be16At p 0) p (getD (r .numbers) i 0)) (z .numbers ∙ sym (z .nkeys)) (rw (z .nkeys) (ltb-true _ _ t)), hn, z .nkeys, t, l, a, n)))
+      (λ n. rw (e, valueAt-held (λ i. getD (r .numbers .values) i 0) (r .numbers .keys) g (rw (z .nkeys) (ltb-true _ _ t)), ← replaced-numbers (r .numbers .keys) (r .numbers .values) g (numberOf (be16At p 0) p (getD (r .numbers .values) i 0)) (z .numbers ∙ sym (z .nkeys)) (rw (z .nkeys) (ltb-true _ _ t)), hn, z .nkeys, t, l, a, n)))
       (λ a. rw (e, hn, z .nkeys, t, l, a))))
       (λ t. rw (e, hn, z .nkeys, t)))
       (λ e. rw e)
 
 -- any type, the eighteen one by one and then the rest
-module _ (r : Receiver) (z : Sized r) (within : overOf (r .ckeys) (r .clengths) 245 ≡ false) (from : Bool) (g : ℕ) (p : List ℕ) (b : ltb 0x7fff g ≡ false) (c : ltb 250 (length p) ≡ false) where
+module _ (r : Receiver) (z : Sized r) (within : overOf (r .commands .keys) (r .commands .lengths) keptLimit ≡ false) (from : Bool) (g : ℕ) (p : List ℕ) (b : ltb 0x7fff g ≡ false) (c : ltb 250 (length p) ≡ false) where
   abbrev Refined : ℕ → Type 0
   Refined frameType = told (frame from g frameType p) (handledIn r (frame from g frameType p)) ≡ handledOf (stateOf r) (frame from g frameType p)
 
@@ -261,30 +261,30 @@ module _ (r : Receiver) (z : Sized r) (within : overOf (r .ckeys) (r .clengths) 
 
 -- 12, 13 and 32 are asked of the arrays as of the tables; behind them both steps go by the type
 module _ (r : Receiver) (f : Frame) where
-  over-same : overLimit (stateOf r .commands) ≡ overOf (r .ckeys) (r .clengths) 245
+  over-same : overLimit (stateOf r .tables .commands) ≡ overOf (r .commands .keys) (r .commands .lengths) keptLimit
   unfolding stateOf
-  over-same = overLimit-places (r .ckeys) (r .ctypes) (r .clengths) (r .cpayloads)
+  over-same = overLimit-places (r .commands .keys) (r .commands .types) (r .commands .lengths) (r .commands .payloads)
 
-  pub refused-12 : overOf (r .ckeys) (r .clengths) 245 ≡ true → told f (stepIn r f) ≡ stepOf (stateOf r) f
+  pub refused-12 : overOf (r .commands .keys) (r .commands .lengths) keptLimit ≡ true → told f (stepIn r f) ≡ stepOf (stateOf r) f
   unfolding stepIn stepOf
   refused-12 a = rw (over-same, a)
 
-  pub refused-13 : overOf (r .ckeys) (r .clengths) 245 ≡ false → ltb 0x7fff (f .gateway) ≡ true → told f (stepIn r f) ≡ stepOf (stateOf r) f
+  pub refused-13 : overOf (r .commands .keys) (r .commands .lengths) keptLimit ≡ false → ltb 0x7fff (f .gateway) ≡ true → told f (stepIn r f) ≡ stepOf (stateOf r) f
   unfolding stepIn stepOf
   refused-13 a b = rw (over-same, a, b)
 
-  pub refused-32 : overOf (r .ckeys) (r .clengths) 245 ≡ false → ltb 0x7fff (f .gateway) ≡ false → ltb 250 (length (f .payload)) ≡ true → told f (stepIn r f) ≡ stepOf (stateOf r) f
+  pub refused-32 : overOf (r .commands .keys) (r .commands .lengths) keptLimit ≡ false → ltb 0x7fff (f .gateway) ≡ false → ltb 250 (length (f .payload)) ≡ true → told f (stepIn r f) ≡ stepOf (stateOf r) f
   unfolding stepIn stepOf
   refused-32 a b c = rw (over-same, a, b, c)
 
-  passed : overOf (r .ckeys) (r .clengths) 245 ≡ false → ltb 0x7fff (f .gateway) ≡ false → ltb 250 (length (f .payload)) ≡ false → told f (handledIn r f) ≡ handledOf (stateOf r) f → told f (stepIn r f) ≡ stepOf (stateOf r) f
+  passed : overOf (r .commands .keys) (r .commands .lengths) keptLimit ≡ false → ltb 0x7fff (f .gateway) ≡ false → ltb 250 (length (f .payload)) ≡ false → told f (handledIn r f) ≡ handledOf (stateOf r) f → told f (stepIn r f) ≡ stepOf (stateOf r) f
   unfolding stepIn stepOf handledOf
   passed a b c e = rw (over-same, a, b, c) e
 
 -- the step over the arrays is 01's step over the tables that they mean
 pub refines : (r : Receiver) → Sized r → (f : Frame) → told f (stepIn r f) ≡ stepOf (stateOf r) f
 refines r z f =
-    by (overOf (r .ckeys) (r .clengths) 245) (refused-12 r f)
+    by (overOf (r .commands .keys) (r .commands .lengths) keptLimit) (refused-12 r f)
     (λ a. by (ltb 0x7fff (f .gateway)) (refused-13 r f a)
     (λ b. by (ltb 250 (length (f .payload))) (refused-32 r f a b)
     (λ c. passed r f a b c (refines-handled r z a (f .from) (f .gateway) (f .payload) b c (f .frameType)))))
@@ -293,6 +293,6 @@ refines r z f =
 pub reset-refines : (r : Receiver) → toldReset (resetIn r) ≡ resetOf (stateOf r)
 unfolding resetIn resetOf stateOf
 reset-refines r =
-    by (overOf (r .ckeys) (r .clengths) 245)
-    (λ e. rw (overLimit-places (r .ckeys) (r .ctypes) (r .clengths) (r .cpayloads), e))
-    (λ e. rw (overLimit-places (r .ckeys) (r .ctypes) (r .clengths) (r .cpayloads), e))
+    by (overOf (r .commands .keys) (r .commands .lengths) keptLimit)
+    (λ e. rw (overLimit-places (r .commands .keys) (r .commands .types) (r .commands .lengths) (r .commands .payloads), e))
+    (λ e. rw (overLimit-places (r .commands .keys) (r .commands .types) (r .commands .lengths) (r .commands .payloads), e))

@@ -34,7 +34,7 @@ handed pool f a = outcomeOf (payloadAt pool) (f .gateway) (f .payload) (saidOf a
 
 -- what a step says of a frame: what it hands back, and the tables and counters after it
 abbrev pub told : Frame → Stepped → Result
-told f t = record { outcome = handed (t .receiver .cpayloads) f (t .answer); state = stateOf (t .receiver) }
+told f t = record { outcome = handed (t .receiver .commands .payloads) f (t .answer); state = stateOf (t .receiver) }
 
 -- and of a reset
 abbrev pub toldReset : WasReset → Result

@@ -7,6 +7,8 @@ use Rattle.address.specs.Address.{isFrom, gatewayOf}
 use Rattle.address.specs.declared.Address.{Address}
 use Rattle.link.specs.declared.Type as link
 use Rattle.tables.specs.Places.{Place, placesOf}
+use Rattle.answers.specs.Counters.{counterCount}
+use Rattle.answers.specs.Stored.{stride, poolSize}
 use Rattle.transport_receiver.specs.declared.Receiver.{Receiver}
 
 -- a waiting command: the request's packet type, its payload's length, its payload
@@ -15,20 +17,20 @@ pub record Command : Type 0 where
   pub size : ℕ
   pub payload : List ℕ
 
--- 01, "Transport": tables: 32 packet numbers, 32 last sequences, 64 waiting commands of up to 245 payload bytes
-abbrev pub roomOfCommand : ℕ
-roomOfCommand = 245
-
--- the three tables, and the 33 counters
-pub record State : Type 0 where
+-- 01, "Transport": tables: 32 packet numbers, 32 last sequences, 64 waiting commands
+pub record Tables : Type 0 where
   pub numbers : List (Place ℕ)
   pub sequences : List (Place ℕ)
   pub commands : List (Place Command)
+
+-- the three tables, and apart from them the 33 counters
+pub record State : Type 0 where
+  pub tables : Tables
   pub counters : List ℕ
 
 -- the bytes of the pool that belong to a place, as many as its length says
 abbrev pub payloadAt : List ℕ → ℕ → ℕ → List ℕ
-payloadAt pool i size = take size (drop (i * roomOfCommand) pool)
+payloadAt pool i size = take size (drop (i * stride) pool)
 
 -- the command at a place of the arrays
 abbrev pub commandIn : List ℕ → List ℕ → List ℕ → ℕ → Command
@@ -39,9 +41,11 @@ commandIn types lengths pool i =
 unfoldable pub stateOf : Receiver → State
 stateOf r =
     record {
-      numbers = placesOf (r .nkeys) (λ i. getD (r .numbers) i 0);
-      sequences = placesOf (r .skeys) (λ i. getD (r .sequences) i 0);
-      commands = placesOf (r .ckeys) (commandIn (r .ctypes) (r .clengths) (r .cpayloads));
+      tables = record {
+        numbers = placesOf (r .numbers .keys) (λ i. getD (r .numbers .values) i 0);
+        sequences = placesOf (r .sequences .keys) (λ i. getD (r .sequences .values) i 0);
+        commands = placesOf (r .commands .keys) (commandIn (r .commands .types) (r .commands .lengths) (r .commands .payloads));
+      };
       counters = r .counters;
     }
 
@@ -64,13 +68,8 @@ frameOf address frameType payload = given (isFrom address) (gatewayOf address) (
 abbrev pub fresh : Receiver
 fresh =
     record {
-      nkeys = replicate 32 0;
-      numbers = replicate 32 0;
-      skeys = replicate 32 0;
-      sequences = replicate 32 0;
-      ckeys = replicate 64 0;
-      ctypes = replicate 64 0;
-      clengths = replicate 64 0;
-      cpayloads = replicate 15680 0;
-      counters = replicate 33 0;
+      numbers = record { keys = replicate 32 0; values = replicate 32 0 };
+      sequences = record { keys = replicate 32 0; values = replicate 32 0 };
+      commands = record { keys = replicate 64 0; types = replicate 64 0; lengths = replicate 64 0; payloads = replicate poolSize 0 };
+      counters = replicate counterCount 0;
     }

@@ -17,8 +17,8 @@ use Rattle.answers.specs.Counters
 use Rattle.answers.specs.Counters.{raise, countPackets, counterCount}
 use Rattle.answers.specs.Types
 use Rattle.answers.specs.Types.{isOneOf, isNamed, invalidOf, counterOf}
-use Rattle.answers.specs.Stored.{gatewayKey, commandKey, repeats}
-use Rattle.transport_receiver.specs.State.{Command, State, Frame, roomOfCommand}
+use Rattle.answers.specs.Stored.{gatewayKey, commandKey, keptLimit, repeats}
+use Rattle.transport_receiver.specs.State.{Command, State, Frame}
 
 -- 01, "Event record": what an event says; its gateway comes first
 pub data Event : Type 0 where
@@ -46,6 +46,13 @@ isRefusal (refused-with n value) = true
 isRefusal silent = false
 isRefusal (event e) = false
 
+-- the event of what is handed back, if it has one
+abbrev pub eventOf : Outcome → Option Event
+eventOf (refused n) = none
+eventOf (refused-with n value) = none
+eventOf silent = none
+eventOf (event e) = some e
+
 -- what a step hands back, and the state after it
 pub record Result : Type 0 where
   pub outcome : Outcome
@@ -66,7 +73,7 @@ answerKeyOf f = commandKey (f .gateway) (responseSequence (f .payload))
 -- 01, "Numbers handed back", 12: state with a length over its limit. Only a held place's length can be
 abbrev pub isOver : Place Command → Bool
 isOver free = false
-isOver (held k c) = ltb roomOfCommand (c .size)
+isOver (held k c) = ltb keptLimit (c .size)
 
 -- .. at any place
 unfoldable pub overLimit : List (Place Command) → Bool
@@ -108,7 +115,7 @@ row h o c = record { holds = h; outcome = o; counter = c }
 -- 01, "Numbers handed back": the order 12, 13, 32 ..
 abbrev pub rowsOfAny : State → Frame → List Row → List Row
 rowsOfAny s f rows =
-    row (overLimit (s .commands)) (refused 12) none
+    row (overLimit (s .tables .commands)) (refused 12) none
     ∷ row (ltb idLimit (f .gateway)) (refused 13) none
     ∷ row (ltb payloadLimit (length (f .payload))) (refused 32) none
     ∷ rows
@@ -119,22 +126,22 @@ abbrev pub rowsOfType : State → Frame → List Row
 rowsOfType s f =
     row (not (isNamed (f .frameType))) (refused 31) (some Counters.unhandled-frame-type)
     ∷ row (wrongDirection f) (refused 20) (some (invalidOf (f .frameType)))
-    ∷ row (eqb (f .frameType) Types.receive-response && not (isHeld (s .numbers) (gatewayKeyOf f))) (refused 24) (some Counters.receive-response-from-unknown-gateway)
+    ∷ row (eqb (f .frameType) Types.receive-response && not (isHeld (s .tables .numbers) (gatewayKeyOf f))) (refused 24) (some Counters.receive-response-from-unknown-gateway)
     ∷ row (wrongLength f) (refused 21) (some (invalidOf (f .frameType)))
     ∷ row (eqb (f .frameType) Types.receive-response && ltb (length (f .payload)) 2) (refused-with 23 5) (some (invalidOf (f .frameType)))
     ∷ row (eqb (f .frameType) Types.receive-response && not (acceptedOf (statusOf f))) (refused 22) (some (invalidOf (f .frameType)))
     ∷ row (eqb (f .frameType) Types.receive-response && ltb (length (f .payload)) (neededOf (statusOf f))) (refused-with 23 (neededOf (statusOf f))) (some (invalidOf (f .frameType)))
     ∷ row (eqb (f .frameType) Types.enumeration-start-request && isFrom (enumerationAddress (f .payload))) (refused 28) (some (invalidOf (f .frameType)))
     ∷ row (eqb (f .frameType) Types.version-response && not (isText (f .payload))) (refused 29) (some (invalidOf (f .frameType)))
-    ∷ row (eqb (f .frameType) Types.command-request && not (hasRoom (s .sequences) (gatewayKeyOf f))) (refused 26) none
-    ∷ row (eqb (f .frameType) Types.command-request && not (hasRoom (s .commands) (keyOf f))) (refused 27) none
-    ∷ row (eqb (f .frameType) Types.receive-request && not (hasRoom (s .numbers) (gatewayKeyOf f))) (refused 25) none
-    ∷ row (eqb (f .frameType) Types.command-response && not (isHeld (s .commands) (answerKeyOf f))) (refused 30) (some Counters.retransmitted-command-responses)
+    ∷ row (eqb (f .frameType) Types.command-request && not (hasRoom (s .tables .sequences) (gatewayKeyOf f))) (refused 26) none
+    ∷ row (eqb (f .frameType) Types.command-request && not (hasRoom (s .tables .commands) (keyOf f))) (refused 27) none
+    ∷ row (eqb (f .frameType) Types.receive-request && not (hasRoom (s .tables .numbers) (gatewayKeyOf f))) (refused 25) none
+    ∷ row (eqb (f .frameType) Types.command-response && not (isHeld (s .tables .commands) (answerKeyOf f))) (refused 30) (some Counters.retransmitted-command-responses)
     ∷ []
 
 -- a state with other counters
 abbrev pub counting : State → List ℕ → State
-counting s cs = record { numbers = s .numbers; sequences = s .sequences; commands = s .commands; counters = cs }
+counting s cs = record { tables = s .tables; counters = cs }
 
 -- the counter that a row names raised, if it names one
 abbrev pub raiseAny : Option ℕ → List ℕ → List ℕ
@@ -156,9 +163,7 @@ received s f before area =
     record {
       outcome = event (slot-counter (f .gateway) (be16At (f .payload) (slotCounterAt (statusOf f))) (repeats (numberOf (statusOf f) (f .payload) before) before area) area);
       state = record {
-        numbers = stored (s .numbers) (gatewayKeyOf f) (numberOf (statusOf f) (f .payload) before);
-        sequences = s .sequences;
-        commands = s .commands;
+        tables = record { numbers = stored (s .tables .numbers) (gatewayKeyOf f) (numberOf (statusOf f) (f .payload) before); sequences = s .tables .sequences; commands = s .tables .commands };
         counters = countPackets area (raise Counters.receive-responses (s .counters));
       };
     }
@@ -168,7 +173,10 @@ abbrev pub captured : State → Frame → Result
 captured s f =
     record {
       outcome = event (slot-captured (f .gateway));
-      state = record { numbers = stored (s .numbers) (gatewayKeyOf f) (requestedNumber (f .payload)); sequences = s .sequences; commands = s .commands; counters = raise Counters.receive-requests (s .counters) };
+      state = record {
+        tables = record { numbers = stored (s .tables .numbers) (gatewayKeyOf f) (requestedNumber (f .payload)); sequences = s .tables .sequences; commands = s .tables .commands };
+        counters = raise Counters.receive-requests (s .counters);
+      };
     }
 
 -- it counts as retransmitted if its sequence is the gateway's last
@@ -186,10 +194,12 @@ kept s f =
     record {
       outcome = silent;
       state = record {
-        numbers = s .numbers;
-        sequences = stored (s .sequences) (gatewayKeyOf f) (requestSequence (f .payload));
-        commands = stored (s .commands) (keyOf f) (requestOf (f .payload));
-        counters = raise (cond (isLast (valueAt (s .sequences) (gatewayKeyOf f)) (requestSequence (f .payload))) Counters.retransmitted-command-requests Counters.command-requests) (s .counters);
+        tables = record {
+          numbers = s .tables .numbers;
+          sequences = stored (s .tables .sequences) (gatewayKeyOf f) (requestSequence (f .payload));
+          commands = stored (s .tables .commands) (keyOf f) (requestOf (f .payload));
+        };
+        counters = raise (cond (isLast (valueAt (s .tables .sequences) (gatewayKeyOf f)) (requestSequence (f .payload))) Counters.retransmitted-command-requests Counters.command-requests) (s .counters);
       };
     }
 
@@ -202,8 +212,11 @@ executedOf (some c) f = event (command (f .gateway) (c .packetType) (c .payload)
 abbrev pub executed : State → Frame → Result
 executed s f =
     record {
-      outcome = executedOf (valueAt (s .commands) (answerKeyOf f)) f;
-      state = record { numbers = s .numbers; sequences = s .sequences; commands = removed (s .commands) (answerKeyOf f); counters = raise Counters.command-responses (s .counters) };
+      outcome = executedOf (valueAt (s .tables .commands) (answerKeyOf f)) f;
+      state = record {
+        tables = record { numbers = s .tables .numbers; sequences = s .tables .sequences; commands = removed (s .tables .commands) (answerKeyOf f) };
+        counters = raise Counters.command-responses (s .counters);
+      };
     }
 
 -- an accepted frame that changes a counter alone
@@ -214,7 +227,7 @@ counted s o i = record { outcome = o; state = counting s (raise i (s .counters))
 abbrev pub accepted : State → Frame → Result
 accepted s f =
     cond (eqb (f .frameType) Types.receive-request) (captured s f)
-    (cond (eqb (f .frameType) Types.receive-response) (received s f (numberIn (valueAt (s .numbers) (gatewayKeyOf f))) (drop (neededOf (statusOf f)) (f .payload)))
+    (cond (eqb (f .frameType) Types.receive-response) (received s f (numberIn (valueAt (s .tables .numbers) (gatewayKeyOf f))) (drop (neededOf (statusOf f)) (f .payload)))
     (cond (eqb (f .frameType) Types.command-request) (kept s f)
     (cond (eqb (f .frameType) Types.command-response) (executed s f)
     (cond (eqb (f .frameType) Types.enumeration-start-request) (counted s (event (enumeration-started (gatewayOf (enumerationAddress (f .payload))))) Counters.enumeration-start-requests)
@@ -240,7 +253,7 @@ stepOf s f = judged (rowsOfAny s f (rowsOfType s f)) s f
 -- 01, "Transport": their reset clears nothing else; 12 refuses it as it does a frame
 unfoldable pub resetOf : State → Result
 resetOf s =
-    cond (overLimit (s .commands)) (record { outcome = refused 12; state = s })
+    cond (overLimit (s .tables .commands)) (record { outcome = refused 12; state = s })
     (record { outcome = silent; state = counting s (replicate counterCount 0) })
 
 -- what a receiver is given, one after another: a frame, or the reset of its counters

@@ -5,6 +5,7 @@
 ghost use mathlib.Core.Path.{_≡_};
 ghost use Rattle.address.specs.Address.{isFrom, gatewayOf};
 ghost use Rattle.tables.specs.Keys.{overOf};
+ghost use Rattle.answers.specs.Stored.{keptLimit};
 ghost use Rattle.transport_receiver.specs.State.{given, frameOf, stateOf, fresh};
 ghost use Rattle.transport_receiver.specs.Step.{stepOf, resetOf};
 ghost use Rattle.transport_receiver.specs.Handed.{told, toldReset};
@@ -14,6 +15,9 @@ use address::GatewayID;
 use address::ID_LIMIT;
 pub use answers::Answer;
 pub use answers::counters;
+pub use answers::entries::KEPT_LIMIT;
+pub use answers::entries::POOL;
+use answers::entries::STRIDE;
 use command_frames::command_request;
 use command_frames::command_response;
 use link::PAYLOAD_LIMIT;
@@ -31,19 +35,31 @@ const COMMAND_REQUEST: u16 = Type::COMMAND_REQUEST.0;
 
 const COMMAND_RESPONSE: u16 = Type::COMMAND_RESPONSE.0;
 
-// The state: three tables and the counters, as arrays of numbers (`stateOf` of specs/State.antt says what they mean). A key of 0 is a free place.
+// 32 packet numbers: keys of gateways, numbers. A key of 0 is a free place, here and in the other two tables.
+pub struct Numbers {
+    pub keys: [u32; 32],
+    pub values: [u16; 32],
+}
+
+// 32 last sequences: keys of gateways, sequences.
+pub struct Sequences {
+    pub keys: [u32; 32],
+    pub values: [u8; 32],
+}
+
+// 64 waiting commands: keys of gateway and sequence, packet types, payload lengths, and a part of the pool for each payload.
+pub struct Commands {
+    pub keys: [u32; 64],
+    pub types: [u8; 64],
+    pub lengths: [u16; 64],
+    pub payloads: [u8; POOL],
+}
+
+// The state: three tables and the counters, as arrays of numbers (`stateOf` of specs/State.antt says what they mean).
 pub struct Receiver {
-    // 32 packet numbers: keys of gateways, numbers.
-    pub nkeys: [u32; 32],
-    pub numbers: [u16; 32],
-    // 32 last sequences: keys of gateways, sequences.
-    pub skeys: [u32; 32],
-    pub sequences: [u8; 32],
-    // 64 waiting commands: keys of gateway and sequence, packet types, payload lengths, and 245 bytes for each payload.
-    pub ckeys: [u32; 64],
-    pub ctypes: [u8; 64],
-    pub clengths: [u8; 64],
-    pub cpayloads: [u8; 15680],
+    pub numbers: Numbers,
+    pub sequences: Sequences,
+    pub commands: Commands,
     // The counters, each at its place of `counters`.
     pub counters: [u64; 33],
 }
@@ -62,8 +78,8 @@ fn handled(
     sequences: &mut [u8; 32],
     ckeys: &mut [u32; 64],
     ctypes: &mut [u8; 64],
-    clengths: &mut [u8; 64],
-    cpayloads: &mut [u8; 15680],
+    clengths: &mut [u16; 64],
+    cpayloads: &mut [u8; POOL],
     counters: &mut [u64; 33],
     from: bool,
     gateway: GatewayID,
@@ -124,7 +140,7 @@ fn show(
     sequences: &[u8],
     ckeys: &[u32],
     ctypes: &[u8],
-    clengths: &[u8],
+    clengths: &[u16],
     cpayloads: &[u8],
     counters: &[u64],
 ) {}
@@ -137,8 +153,8 @@ pub fn step_in(
     sequences: &mut [u8; 32],
     ckeys: &mut [u32; 64],
     ctypes: &mut [u8; 64],
-    clengths: &mut [u8; 64],
-    cpayloads: &mut [u8; 15680],
+    clengths: &mut [u16; 64],
+    cpayloads: &mut [u8; POOL],
     counters: &mut [u64; 33],
     address: Address,
     frame_type: Type,
@@ -147,7 +163,7 @@ pub fn step_in(
     ensures exactly { λ r. ⌜ stepped r (arrays (now (nkeys .exit)) (now (numbers .exit)) (now (skeys .exit)) (now (sequences .exit)) (now (ckeys .exit)) (now (ctypes .exit)) (now (clengths .exit)) (now (cpayloads .exit)) (now (counters .exit))) ≡ stepIn (arrays (now (nkeys .entry)) (now (numbers .entry)) (now (skeys .entry)) (now (sequences .entry)) (now (ckeys .entry)) (now (ctypes .entry)) (now (clengths .entry)) (now (cpayloads .entry)) (now (counters .entry))) (frameOf address «frame_type» (now (payload .entry))) ⌝ }
     ensures means { λ r. ⌜ told (frameOf address «frame_type» (now (payload .entry))) (stepped r (arrays (now (nkeys .exit)) (now (numbers .exit)) (now (skeys .exit)) (now (sequences .exit)) (now (ckeys .exit)) (now (ctypes .exit)) (now (clengths .exit)) (now (cpayloads .exit)) (now (counters .exit)))) ≡ stepOf (stateOf (arrays (now (nkeys .entry)) (now (numbers .entry)) (now (skeys .entry)) (now (sequences .entry)) (now (ckeys .entry)) (now (ctypes .entry)) (now (clengths .entry)) (now (cpayloads .entry)) (now (counters .entry)))) (frameOf address «frame_type» (now (payload .entry))) ⌝ }
 {
-    if tables::over(ckeys, clengths, 245) {
+    if tables::over(ckeys, clengths, KEPT_LIMIT) {
         return Answer::OverLimit;
     }
     let gateway = gateway_of(address);
@@ -187,7 +203,7 @@ pub fn step_in(
 }
 
 // The request's payload of a command at a place of the pool. It stays there until the place is used again. Empty where no such place or length is.
-pub fn request_payload(cpayloads: &[u8; 15680], place: usize, length: u8) -> &[u8]
+pub fn request_payload(cpayloads: &[u8; POOL], place: usize, length: u16) -> &[u8]
     ensures { λ r. ⌜ now r ≡ requestPayload (now (cpayloads .entry)) place length ⌝ }
 {
     let pool = &cpayloads[..];
@@ -195,20 +211,20 @@ pub fn request_payload(cpayloads: &[u8; 15680], place: usize, length: u8) -> &[u
     if 64 <= place {
         return &pool[0..0];
     }
-    if 245 < size {
+    if KEPT_LIMIT < length {
         return &pool[0..0];
     }
-    let start = place * 245;
+    let start = place * STRIDE;
     let end = start + size;
     &pool[start..end]
 }
 
 // The counters of a state that is lent, set to 0: they are lent, and what 12 looks at. Whether 12 refuses it, with nothing changed.
-pub fn reset_in(ckeys: &[u32; 64], clengths: &[u8; 64], counters: &mut [u64; 33]) -> bool
-    ensures answer { λ r. ⌜ r ≡ overOf (now (ckeys .entry)) (now (clengths .entry)) 245 ⌝ }
-    ensures zeros { λ r. ⌜ now (counters .exit) ≡ countersAfter (overOf (now (ckeys .entry)) (now (clengths .entry)) 245) (now (counters .entry)) ⌝ }
+pub fn reset_in(ckeys: &[u32; 64], clengths: &[u16; 64], counters: &mut [u64; 33]) -> bool
+    ensures answer { λ r. ⌜ r ≡ overOf (now (ckeys .entry)) (now (clengths .entry)) keptLimit ⌝ }
+    ensures zeros { λ r. ⌜ now (counters .exit) ≡ countersAfter (overOf (now (ckeys .entry)) (now (clengths .entry)) keptLimit) (now (counters .entry)) ⌝ }
 {
-    if tables::over(ckeys, clengths, 245) {
+    if tables::over(ckeys, clengths, KEPT_LIMIT) {
         return true;
     }
     *counters = [0; 33];
@@ -226,15 +242,24 @@ impl Receiver {
     pub fn new() -> Self
         ensures { λ r. ⌜ r ≡ fresh ⌝ }
     {
+        let numbers = Numbers {
+            keys: [0; 32],
+            values: [0; 32],
+        };
+        let sequences = Sequences {
+            keys: [0; 32],
+            values: [0; 32],
+        };
+        let commands = Commands {
+            keys: [0; 64],
+            types: [0; 64],
+            lengths: [0; 64],
+            payloads: [0; POOL],
+        };
         Self {
-            nkeys: [0; 32],
-            numbers: [0; 32],
-            skeys: [0; 32],
-            sequences: [0; 32],
-            ckeys: [0; 64],
-            ctypes: [0; 64],
-            clengths: [0; 64],
-            cpayloads: [0; 15680],
+            numbers,
+            sequences,
+            commands,
             counters: [0; 33],
         }
     }
@@ -244,14 +269,17 @@ impl Receiver {
         ensures exactly { λ r. ⌜ r ≡ stepIn self (frameOf address «frame_type» (now (payload .entry))) ⌝ }
         ensures means { λ r. ⌜ told (frameOf address «frame_type» (now (payload .entry))) r ≡ stepOf (stateOf self) (frameOf address «frame_type» (now (payload .entry))) ⌝ }
     {
-        let mut nkeys = self.nkeys;
-        let mut numbers = self.numbers;
-        let mut skeys = self.skeys;
-        let mut sequences = self.sequences;
-        let mut ckeys = self.ckeys;
-        let mut ctypes = self.ctypes;
-        let mut clengths = self.clengths;
-        let mut cpayloads = self.cpayloads;
+        let n = self.numbers;
+        let mut nkeys = n.keys;
+        let mut numbers = n.values;
+        let s = self.sequences;
+        let mut skeys = s.keys;
+        let mut sequences = s.values;
+        let w = self.commands;
+        let mut ckeys = w.keys;
+        let mut ctypes = w.types;
+        let mut clengths = w.lengths;
+        let mut cpayloads = w.payloads;
         let mut counters = self.counters;
         let answer = step_in(
             &mut nkeys,
@@ -267,15 +295,24 @@ impl Receiver {
             frame_type,
             payload,
         );
+        let asked = Numbers {
+            keys: nkeys,
+            values: numbers,
+        };
+        let last = Sequences {
+            keys: skeys,
+            values: sequences,
+        };
+        let waiting = Commands {
+            keys: ckeys,
+            types: ctypes,
+            lengths: clengths,
+            payloads: cpayloads,
+        };
         let receiver = Receiver {
-            nkeys,
-            numbers,
-            skeys,
-            sequences,
-            ckeys,
-            ctypes,
-            clengths,
-            cpayloads,
+            numbers: asked,
+            sequences: last,
+            commands: waiting,
             counters,
         };
         Stepped { receiver, answer }
@@ -286,8 +323,9 @@ impl Receiver {
         ensures exactly { λ r. ⌜ r ≡ resetIn self ⌝ }
         ensures means { λ r. ⌜ toldReset r ≡ resetOf (stateOf self) ⌝ }
     {
-        let ckeys = self.ckeys;
-        let clengths = self.clengths;
+        let w = self.commands;
+        let ckeys = w.keys;
+        let clengths = w.lengths;
         let mut counters = self.counters;
         let over = reset_in(&ckeys, &clengths, &mut counters);
         self.counters = counters;

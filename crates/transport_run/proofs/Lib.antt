@@ -1,3 +1,4 @@
 pub mod Reached
 pub mod Source
 pub mod Once
+pub mod Looks

@@ -30,36 +30,33 @@ all-free-at n values i k = rw (getD-places values (replicate n 0) i, zero-at n i
 all-free : {A : Type 0} (n : ℕ) (values : ℕ → A) → Distinct (placesOf (replicate n 0) values)
 all-free n values i j k a b = absurd (let z : _≡_ {A = ℕ} 0 1 = cc (all-free-at n values i k) in omega arith)
 
-distinct-fresh : AllDistinct (stateOf fresh)
+distinct-fresh : AllDistinct (stateOf fresh .tables)
 unfolding stateOf
 distinct-fresh = record { numbers = all-free 32 _; sequences = all-free 32 _; commands = all-free 64 _ }
 
-module _ (s : State) (f : Frame) (d : AllDistinct s) where
+module _ (s : State) (f : Frame) (d : AllDistinct (s .tables)) where
   abbrev Kept : Result → Type 0
-  Kept r = AllDistinct (r .state)
-
-  same-tables : (cs : List ℕ) → AllDistinct (counting s cs)
-  same-tables cs = record { numbers = d .numbers; sequences = d .sequences; commands = d .commands }
+  Kept r = AllDistinct (r .state .tables)
 
   distinct-accepted : Kept (accepted s f)
   distinct-accepted =
       accepted-cases Kept s f
-      (λ e. record { numbers = distinct-stored (s .numbers) (gatewayKeyOf f) (be16At (f .payload) 2) (d .numbers); sequences = d .sequences; commands = d .commands })
-      (λ e. record { numbers = distinct-stored (s .numbers) (gatewayKeyOf f) (numberOf (statusOf f) (f .payload) (numberIn (valueAt (s .numbers) (gatewayKeyOf f)))) (d .numbers); sequences = d .sequences; commands = d .commands })
-      (λ e. record { numbers = d .numbers; sequences = distinct-stored (s .sequences) (gatewayKeyOf f) (requestSequence (f .payload)) (d .sequences); commands = distinct-stored (s .commands) (keyOf f) (requestOf (f .payload)) (d .commands) })
-      (λ e. record { numbers = d .numbers; sequences = d .sequences; commands = distinct-removed (s .commands) (keyOf f) (d .commands) })
-      (λ o i e. same-tables _)
+      (λ e. record { numbers = distinct-stored (s .tables .numbers) (gatewayKeyOf f) (be16At (f .payload) 2) (d .numbers); sequences = d .sequences; commands = d .commands })
+      (λ e. record { numbers = distinct-stored (s .tables .numbers) (gatewayKeyOf f) (numberOf (statusOf f) (f .payload) (numberIn (valueAt (s .tables .numbers) (gatewayKeyOf f)))) (d .numbers); sequences = d .sequences; commands = d .commands })
+      (λ e. record { numbers = d .numbers; sequences = distinct-stored (s .tables .sequences) (gatewayKeyOf f) (requestSequence (f .payload)) (d .sequences); commands = distinct-stored (s .tables .commands) (keyOf f) (requestOf (f .payload)) (d .commands) })
+      (λ e. record { numbers = d .numbers; sequences = d .sequences; commands = distinct-removed (s .tables .commands) (keyOf f) (d .commands) })
+      (λ o i e. d)
 
-  pub distinct-step : AllDistinct (stepOf s f .state)
+  pub distinct-step : AllDistinct (stepOf s f .state .tables)
   unfolding stepOf
-  distinct-step = judged-cases Kept s f (λ r. same-tables _) distinct-accepted (rowsOfAny s f (rowsOfType s f))
+  distinct-step = judged-cases Kept s f (λ r. d) distinct-accepted (rowsOfAny s f (rowsOfType s f))
 
-pub distinct-reset : (s : State) → AllDistinct s → AllDistinct (resetOf s .state)
+pub distinct-reset : (s : State) → AllDistinct (s .tables) → AllDistinct (resetOf s .state .tables)
 unfolding resetOf
-distinct-reset s d = by (overLimit (s .commands)) (λ e. rw e d) (λ e. rw e (record { numbers = d .numbers; sequences = d .sequences; commands = d .commands }))
+distinct-reset s d = by (overLimit (s .tables .commands)) (λ e. rw e d) (λ e. rw e d)
 
 -- from fresh no table ever holds two places of one key
-pub distinct-reached : {s : State} → Reached s → AllDistinct s
+pub distinct-reached : {s : State} → Reached s → AllDistinct (s .tables)
 distinct-reached start = distinct-fresh
 distinct-reached (on {s} r (frame f)) = distinct-step s f (distinct-reached r)
 distinct-reached (on {s} r reset) = distinct-reset s (distinct-reached r)
@@ -83,15 +80,15 @@ pub clash : {P : Type 0} {n : ℕ} {e : Event} → refused n ≡ event e → P
 clash q = absurd (let z : _≡_ {A = ℕ} 0 1 = cc in omega arith)
 
 -- a response that found its request, given again, gets 30: its request is gone until a new one is stored
-pub again-30 : (s : State) (f : Frame) (e : Event) → Distinct (s .commands) → f .frameType ≡ Types.command-response → stepOf s f .outcome ≡ event e → stepOf (stepOf s f .state) f .outcome ≡ refused 30
+pub again-30 : (s : State) (f : Frame) (e : Event) → Distinct (s .tables .commands) → f .frameType ≡ Types.command-response → stepOf s f .outcome ≡ event e → stepOf (stepOf s f .state) f .outcome ≡ refused 30
 unfolding stepOf
 again-30 s f e d k got =
-    by (overLimit (s .commands)) (λ a. clash (rw (k, a) at got))
+    by (overLimit (s .tables .commands)) (λ a. clash (rw (k, a) at got))
     (λ a. by (ltb 0x7fff (f .gateway)) (λ b. clash (rw (k, a, b) at got))
     (λ b. by (ltb 250 (length (f .payload))) (λ c. clash (rw (k, a, b, c) at got))
     (λ c. by (f .from)
     (λ t. by (ltb (length (f .payload)) 5) (λ l. clash (rw (k, a, b, c, t, l) at got))
-    (λ l. by (isHeld (s .commands) (keyOf f))
-    (λ h. rw (k, a, b, c, t, l, h) (rw (over-freed (s .commands) _ a, isHeld-removed (s .commands) (keyOf f) d)))
+    (λ l. by (isHeld (s .tables .commands) (keyOf f))
+    (λ h. rw (k, a, b, c, t, l, h) (rw (over-freed (s .tables .commands) _ a, isHeld-removed (s .tables .commands) (keyOf f) d)))
     (λ h. clash (rw (k, a, b, c, t, l, h) at got))))
     (λ t. clash (rw (k, a, b, c, t) at got)))))

@@ -3,7 +3,7 @@ use mathlib.Core.Path.{_≡_}
 use Prim.Native.Nat.{ℕ}
 use Rattle.tables.specs.Places.{Distinct}
 use Rattle.answers.specs.Types
-use Rattle.transport_receiver.specs.State.{State, Frame, stateOf, fresh}
+use Rattle.transport_receiver.specs.State.{Tables, State, Frame, stateOf, fresh}
 use Rattle.transport_receiver.specs.Step.{keyOf, Input, frame, takenOf}
 
 -- a fresh receiver's state, and whatever an input makes of a state that is reached
@@ -12,18 +12,12 @@ pub data Reached : State → Type 0 where
   on : {s : State} → Reached s → (i : Input) → Reached (takenOf s i .state)
 
 -- no table holds two places of one key
-pub record AllDistinct (s : State) : Type 0 where
-  pub numbers : Distinct (s .numbers)
-  pub sequences : Distinct (s .sequences)
-  pub commands : Distinct (s .commands)
+pub record AllDistinct (t : Tables) : Type 0 where
+  pub numbers : Distinct (t .numbers)
+  pub sequences : Distinct (t .sequences)
+  pub commands : Distinct (t .commands)
 
 -- inputs that lead from one state to another, none of them a command request under the key k
 pub data Since (k : ℕ) (s : State) : State → Type 0 where
   here : Since k s s
   on : {t : State} → Since k s t → (i : Input) → ((f : Frame) → i ≡ frame f → f .frameType ≡ Types.command-request → keyOf f ≡ k → ⊥) → Since k s (takenOf t i .state)
-
--- two states with the same entries at the same places
-pub record SameTables (s t : State) : Type 0 where
-  pub numbers : t .numbers ≡ s .numbers
-  pub sequences : t .sequences ≡ s .sequences
-  pub commands : t .commands ≡ s .commands

@@ -40,6 +40,9 @@ raise-requires-3 c κs = search needs
 element-copy-out-t28 : tie.Need-element-copy-out-t28
 element-copy-out-t28 c = search needs
 
+mul-t21 : tie.Need-mul-t21
+mul-t21 c = search needs
+
 element-copy-out-t32 : tie.Need-element-copy-out-t32
 element-copy-out-t32 c = search needs
 
@@ -72,6 +75,7 @@ finish-spec =
     element-write-ckeys
     raise-requires-3
     element-copy-out-t28
+    mul-t21
     element-copy-out-t32
     shared-slice-read-t34
     returns-3

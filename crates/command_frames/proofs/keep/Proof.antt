@@ -19,6 +19,9 @@ element-write-ctypes c = search needs
 keep-payload-requires : tie.Need-keep-payload-requires
 keep-payload-requires c κs = search needs
 
+mul-clengths : tie.Need-mul-clengths
+mul-clengths c = search needs
+
 element-write-clengths : tie.Need-element-write-clengths
 element-write-clengths c = search needs
 
@@ -35,5 +38,6 @@ keep-spec =
     shared-slice-read-ctypes
     element-write-ctypes
     keep-payload-requires
+    mul-clengths
     element-write-clengths
     returns)

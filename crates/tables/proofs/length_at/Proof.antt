@@ -5,6 +5,9 @@ use lib.ListN.{List·getD-eq-default}
 use Rattle.tables.proofs.length_at.Statement.{statement}
 use Rattle.tables.proofs.length_at.Tie as tie
 
+mul-result : tie.Need-mul-result
+mul-result c = search needs
+
 shared-slice-read-result : tie.Need-shared-slice-read-result
 shared-slice-read-result c = search needs
 
@@ -15,4 +18,4 @@ returns-2 : tie.Need-returns-2
 returns-2 c = sym (List·getD-eq-default (c .before .args .lengths .now) 0 (c .if1 .left))
 
 pub length-at-spec : {M : Type 1} → statement M
-length-at-spec = tie.close (tie.spec shared-slice-read-result returns returns-2)
+length-at-spec = tie.close (tie.spec mul-result shared-slice-read-result returns returns-2)

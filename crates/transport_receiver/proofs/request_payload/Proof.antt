@@ -1,5 +1,6 @@
 -- `transport_receiver::request_payload` is right: the part of the pool that belongs to the place. Assumes nothing.
 use borrow.Author.Tests.{lt-ltb, le-ltb, eq-eqb, ne-eqb, not-true, not-false}
+use Rattle.answers.specs.Stored.{stride}
 use Rattle.transport_receiver.specs.Lent.{requestPayload}
 use mathlib.Core.Path.{_≡_}
 use Prim.Native.Nat.{_+_, _-_, _*_}
@@ -53,7 +54,7 @@ returns-3 : tie.Need-returns-3
 unfolding requestPayload
 returns-3 c =
     let a = c .before .before .before .before .args in
-    let e : (a .place * 245 + a .length) - a .place * 245 ≡ a .length = omega arith in
+    let e : (a .place * stride + a .length) - a .place * stride ≡ a .length = omega arith in
     rw (lt-ltb _ _ (c .before .before .if1 .left), le-ltb _ _ (c .before .if2 .left), e)
 
 pub request-payload-spec : {M : Type 1} → statement M

@@ -6,6 +6,7 @@ use native.Mathlib.Omega.{arith}
 use lib.ListN.{length}
 use lib.Dec.{ltb}
 use borrow.Author.Tests.{lt-ltb, le-ltb}
+use Rattle.answers.specs.Stored.{keptLimit}
 use Rattle.tables.specs.Keys.{overOf}
 use Rattle.answers.specs.declared.Answer.the-variants.{OverLimit, InvalidGatewayID, PayloadTooLong}
 use Rattle.transport_receiver.specs.State.{frameOf}
@@ -25,7 +26,7 @@ returns c =
     let a = c .before .before .before .before .before .before .before .args in
     let r = arrays (a .nkeys .now) (a .numbers .now) (a .skeys .now) (a .sequences .now) (a .ckeys .now) (a .ctypes .now) (a .clengths .now) (a .cpayloads .now) (a .counters .now) in
     let f = frameOf (a .address) (a .frame-type) (a .payload .now) in
-    let o : overOf (a .ckeys .now) (a .clengths .now) 245 ≡ true = sym (c .before .over .ensures) ∙ c .if1 .taken in
+    let o : overOf (a .ckeys .now) (a .clengths .now) keptLimit ≡ true = sym (c .before .over .ensures) ∙ c .if1 .taken in
     let e : stepped OverLimit r ≡ stepIn r f = rw o in
     (e, ap (told f) e ∙ refused-12 r f o)
 
@@ -38,7 +39,7 @@ returns-2 c =
     let a = c .before .before .before .before .before .before .before .before .before .before .args in
     let r = arrays (a .nkeys .now) (a .numbers .now) (a .skeys .now) (a .sequences .now) (a .ckeys .now) (a .ctypes .now) (a .clengths .now) (a .cpayloads .now) (a .counters .now) in
     let f = frameOf (a .address) (a .frame-type) (a .payload .now) in
-    let o : overOf (a .ckeys .now) (a .clengths .now) 245 ≡ false = sym (c .before .before .before .before .over .ensures) ∙ c .before .before .before .if1 .left in
+    let o : overOf (a .ckeys .now) (a .clengths .now) keptLimit ≡ false = sym (c .before .before .before .before .over .ensures) ∙ c .before .before .before .if1 .left in
     let i : ltb 0x7fff (f .gateway) ≡ true = rw (← c .before .before .gateway-of .ensures) (lt-ltb _ _ (c .if2 .taken)) in
     let e : stepped InvalidGatewayID r ≡ stepIn r f = rw (o, i) in
     (e, ap (told f) e ∙ refused-13 r f o i)
@@ -49,7 +50,7 @@ returns-3 c =
     let a = c .before .before .before .before .before .before .before .before .before .before .before .args in
     let r = arrays (a .nkeys .now) (a .numbers .now) (a .skeys .now) (a .sequences .now) (a .ckeys .now) (a .ctypes .now) (a .clengths .now) (a .cpayloads .now) (a .counters .now) in
     let f = frameOf (a .address) (a .frame-type) (a .payload .now) in
-    let o : overOf (a .ckeys .now) (a .clengths .now) 245 ≡ false = sym (c .before .before .before .before .before .over .ensures) ∙ c .before .before .before .before .if1 .left in
+    let o : overOf (a .ckeys .now) (a .clengths .now) keptLimit ≡ false = sym (c .before .before .before .before .before .over .ensures) ∙ c .before .before .before .before .if1 .left in
     let i : ltb 0x7fff (f .gateway) ≡ false = rw (← c .before .before .before .gateway-of .ensures) (le-ltb _ _ (c .before .if2 .left)) in
     let l : ltb 250 (length (f .payload)) ≡ true = lt-ltb _ _ (c .if3 .taken) in
     let e : stepped PayloadTooLong r ≡ stepIn r f = rw (o, i, l) in

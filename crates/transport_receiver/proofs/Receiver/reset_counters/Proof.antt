@@ -14,8 +14,8 @@ reset-in-requires c κs = search needs
 returns : tie.Need-returns
 unfolding resetIn
 returns c =
-    let e : _≡_ {A = WasReset} (record { receiver = recounted (c .before .before .before .before .before .before .before .args .self) (c .reset-in .last .1 .1 .0); over = c .reset-in .result }) (resetIn (c .before .before .before .before .before .before .before .args .self)) = rw (c .reset-in .ensures .0, c .reset-in .ensures .1) in
-    (e, ap toldReset e ∙ reset-refines (c .before .before .before .before .before .before .before .args .self))
+    let e : _≡_ {A = WasReset} (record { receiver = recounted (c .before .before .before .before .before .before .before .before .args .self) (c .reset-in .last .1 .1 .0); over = c .reset-in .result }) (resetIn (c .before .before .before .before .before .before .before .before .args .self)) = rw (c .reset-in .ensures .0, c .reset-in .ensures .1) in
+    (e, ap toldReset e ∙ reset-refines (c .before .before .before .before .before .before .before .before .args .self))
 
 pub reset-counters-spec : {M : Type 1} → statement M
 reset-counters-spec = tie.close (tie.spec reset-in-requires returns)

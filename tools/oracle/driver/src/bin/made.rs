@@ -32,7 +32,7 @@ impl Cases<'_> {
         t.sequences = self.take();
         t.ckeys.fill_with(|| self.four());
         t.ctypes = self.take();
-        t.clengths = self.take();
+        t.clengths.fill_with(|| self.two());
         t.cpayloads = self.take();
         t.counters.fill_with(|| u64::from_le_bytes(self.take()));
         t
@@ -46,7 +46,7 @@ fn put(out: &mut Vec<u8>, t: &Transport) {
     out.extend(t.sequences);
     t.ckeys.iter().for_each(|k| out.extend(k.to_le_bytes()));
     out.extend(t.ctypes);
-    out.extend(t.clengths);
+    t.clengths.iter().for_each(|n| out.extend(n.to_le_bytes()));
     out.extend(t.cpayloads);
     t.counters.iter().for_each(|c| out.extend(c.to_le_bytes()));
 }

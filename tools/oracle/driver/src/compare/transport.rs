@@ -262,12 +262,12 @@ pub fn refused(run: &mut Run) {
                 t.counters.iter_mut().for_each(|c| *c = rng.next());
                 for i in 0..64 {
                     t.ckeys[i] = if rng.one_in(2) { 0 } else { rng.next() as u32 };
-                    t.clengths[i] = if t.ckeys[i] == 0 { rng.byte() } else { rng.within(0, 245) as u8 };
+                    t.clengths[i] = if t.ckeys[i] == 0 { rng.within(0, 65_535) as u16 } else { rng.within(0, 245) as u16 };
                 }
                 if over {
                     let i = rng.below(64);
                     t.ckeys[i] = 1 + rng.below(1000) as u32;
-                    t.clengths[i] = rng.within(246, 255) as u8;
+                    t.clengths[i] = rng.pick(&[246, 247, 255, 256, 512, 65_535]);
                 }
                 let before = t.clone();
                 let payload = rng.bytes(len);
