@@ -226,17 +226,7 @@ module _ (s : List ℕ) (a n w : ℕ) (h : Bytes s) (g : a + 8 ≤ length s) (en
       let few : r < 8 = omega (arith, some-eight p z f u, both .0) in
       (copy-all p s a 8 r (omega arith) (both .0), few, both .1 ∙ paste-laid d l s a r hd g (omega arith), copy-stops p s a 8 r (omega arith) (both .0) few (omega arith))
 
--- the marks of two sorts joined: noise is neither idle nor 7e, and what stands for itself is neither fenced nor 7e
-pub marks-noise : (w x y : ℕ) → Marks (isOf sort.Raw) w x → Marks (isOf sort.Idle) w y → Marks (isOf sort.Noise) w (bitOr x (bitXor y 0x8080808080808080))
-unfolding isOf
-marks-noise w x y raw idle bs q =
-    let h = q .bytes in
-    let e = q .eight in
-    let r = mark (isOf sort.Raw) in
-    let i : ℕ → ℕ = λ b. bitXor (mark (isOf sort.Idle) b) 0x80 in
-    let is-i = is-xor bs h e y 0x8080808080808080 (mark (isOf sort.Idle)) (λ b. 0x80) (gives-bytes (mark (isOf sort.Idle)) tt) (gives-bytes (λ b. 0x80) tt) (idle bs q) (is-all bs h e 0x8080808080808080 0x80 refl) in
-    is-same bs h e (bitOr x (bitXor y 0x8080808080808080)) (λ b. bitOr (r b) (i b)) (mark (isOf sort.Noise)) (below-is 256 (λ b. bitOr (r b) (i b)) (mark (isOf sort.Noise)) tt) (is-or bs h e x (bitXor y 0x8080808080808080) r i (gives-bytes r tt) (gives-bytes i tt) (raw bs q) is-i)
-
+-- the marks of two sorts joined: what stands for itself is neither fenced nor 7e
 pub marks-plain : (w x y : ℕ) → Marks (isOf sort.Raw) w x → Marks (λ b. not (fenced b)) w y → Marks (isOf sort.Plain) w (bitOr x y)
 unfolding isOf
 marks-plain w x y raw fences bs q =

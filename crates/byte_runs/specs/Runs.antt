@@ -6,7 +6,7 @@ use Prim.Native.Nat.{ℕ, zero, suc, _+_, _%_, _<_}
 use lib.ListN.{getD, set}
 use lib.Dec.{eqb, ltb}
 use Rattle.byte_runs.specs.declared.Sort.{Sort}
-use Rattle.byte_runs.specs.declared.Sort.the-variants.{Raw, Idle, Noise, Plain, Calm}
+use Rattle.byte_runs.specs.declared.Sort.the-variants.{Raw, Idle, Plain, Calm}
 
 -- 01, "The reading of a stream": a data unit is a byte other than 7e
 abbrev pub raw : ℕ → Bool
@@ -24,12 +24,11 @@ fenced b = not (ltb (b % 0x80) 0x23) && ltb (b % 0x80) 0x26
 abbrev pub calm : ℕ → Bool
 calm b = not (eqb b 0x07) && not (eqb b 0x08)
 
--- which bytes are of a sort: raw; idle; another byte outside a frame, which is noise; one that stands for itself on the wire; one that with a 7e
+-- which bytes are of a sort: raw; idle; one that stands for itself on the wire; one that with a 7e
 -- before it neither opens nor closes a frame
 unfoldable pub isOf : Sort → ℕ → Bool
 isOf Raw b = raw b
 isOf Idle b = idle b
-isOf Noise b = raw b && not (idle b)
 isOf Plain b = raw b && not (fenced b)
 isOf Calm b = calm b
 

@@ -10,11 +10,10 @@ ghost use Rattle.byte_runs.specs.Runs.{idle, fenced, isOf, lead};
 ghost use Rattle.byte_runs.specs.Marks.{Marks, betweenOf, Below, First, Blended};
 ghost use Rattle.byte_runs.specs.Noises.{noisesOf, noisesAt, tick, Behind, Begun, NoisyAt, NoisyBehind};
 
-// A sort of bytes: any but 7e; 00 and ff; any but 00, ff and 7e; those that stand for themselves on the wire; any but 07 and 08.
+// A sort of bytes: any but 7e; 00 and ff; those that stand for themselves on the wire; any but 07 and 08.
 pub enum Sort {
     Raw,
     Idle,
-    Noise,
     Plain,
     Calm,
 }
@@ -47,12 +46,6 @@ pub fn is(sort: Sort, b: u8) -> bool
     match sort {
         Sort::Raw => b != 0x7e,
         Sort::Idle => is_idle(b),
-        Sort::Noise => {
-            if b == 0x7e {
-                return false;
-            }
-            !is_idle(b)
-        }
         Sort::Plain => {
             if b == 0x7e {
                 return false;
@@ -116,7 +109,6 @@ fn others(sort: Sort, w: u64) -> u64
     match sort {
         Sort::Raw => escapes(w),
         Sort::Idle => busy(w),
-        Sort::Noise => escapes(w) | (busy(w) ^ 0x8080808080808080),
         Sort::Plain => escapes(w) | fences(w),
         Sort::Calm => ends(w),
     }

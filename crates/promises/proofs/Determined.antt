@@ -233,6 +233,8 @@ use Rattle.byte_runs.proofs.run.Kinds as byte-runs·run·kinds
 use Rattle.byte_runs.proofs.run.Reads as byte-runs·run·reads
 use Rattle.byte_runs.proofs.copy_run.Kinds as byte-runs·copy-run·kinds
 use Rattle.byte_runs.proofs.copy_run.Reads as byte-runs·copy-run·reads
+use Rattle.byte_runs.proofs.noises.Kinds as byte-runs·noises·kinds
+use Rattle.byte_runs.proofs.noises.Reads as byte-runs·noises·reads
 use Rattle.link_receive.proofs.payload.Kinds as link-receive·payload·kinds
 use Rattle.link_receive.proofs.payload.Reads as link-receive·payload·reads
 use Rattle.transport_receiver.proofs.request_payload.Kinds as transport-receiver·request-payload·kinds
@@ -568,6 +570,9 @@ byte-runs·is κs a x y u v p q = (p ∙ sym q, refl)
 
 pub byte-runs·run : Determined 1 byte-runs·run·kinds.ps byte-runs·run·kinds.r byte-runs·run·reads.Learnt
 byte-runs·run κs a x y u v p q = (p ∙ sym q, refl)
+
+pub byte-runs·noises : Determined 1 byte-runs·noises·kinds.ps byte-runs·noises·kinds.r byte-runs·noises·reads.Learnt
+byte-runs·noises κs a x y u v p q = (p ∙ sym q, refl)
 
 pub byte-runs·copy-run : Determined 2 byte-runs·copy-run·kinds.ps byte-runs·copy-run·kinds.r byte-runs·copy-run·reads.Learnt
 byte-runs·copy-run κs a x y u v p q = (p .0 ∙ sym (q .0), ap (λ (z : List ℕ). (a .0, (at-last (a .1 .0) z, (a .1 .1 .0, (a .1 .1 .1 .0, (a .1 .1 .1 .1 .0, tt)))))) (p .1 ∙ ap (λ (n : ℕ). paste (now (a .1 .0)) (a .1 .1 .0) (drop (a .1 .1 .1 .1 .0) (now (a .1 .1 .1 .0))) n) (p .0 ∙ sym (q .0)) ∙ sym (q .1)))

@@ -21,8 +21,8 @@ returns : tie.Need-returns
 unfolding isOf
 returns c = rw (c .before .enum-told3 .given .1, eq-eqb _ _ (c .if1 .taken))
 
-is-idle-requires-2 : tie.Need-is-idle-requires-2
-is-idle-requires-2 c κs = search needs
+is-fenced-requires : tie.Need-is-fenced-requires
+is-fenced-requires c κs = search needs
 
 enum-told-4 : tie.Need-enum-told-4
 enum-told-4 c = search needs
@@ -31,35 +31,21 @@ returns-2 : tie.Need-returns-2
 unfolding isOf
 returns-2 c = rw (c .before .enum-told4 .given .1, eq-eqb _ _ (c .if2 .taken))
 
-is-fenced-requires : tie.Need-is-fenced-requires
-is-fenced-requires c κs = search needs
-
-enum-told-5 : tie.Need-enum-told-5
-enum-told-5 c = search needs
-
 returns-3 : tie.Need-returns-3
 unfolding isOf
-returns-3 c = rw (c .before .enum-told5 .given .1, eq-eqb _ _ (c .if3 .taken))
+returns-3 c = rw (c .enum-told .given .1)
 
 returns-4 : tie.Need-returns-4
 unfolding isOf
-returns-4 c = rw (c .enum-told .given .1)
+returns-4 c = rw (c .before .enum-told2 .given .1) (c .is-idle .ensures)
 
 returns-5 : tie.Need-returns-5
 unfolding isOf
-returns-5 c = rw (c .before .enum-told2 .given .1) (c .is-idle .ensures)
+returns-5 c = rw (c .before .before .enum-told3 .given .1, ne-eqb _ _ (c .before .if1 .left), c .is-fenced .ensures)
 
 returns-6 : tie.Need-returns-6
 unfolding isOf
-returns-6 c = rw (c .before .before .enum-told3 .given .1, ne-eqb _ _ (c .before .if1 .left), c .is-idle2 .ensures)
-
-returns-7 : tie.Need-returns-7
-unfolding isOf
-returns-7 c = rw (c .before .before .enum-told4 .given .1, ne-eqb _ _ (c .before .if2 .left), c .is-fenced .ensures)
-
-returns-8 : tie.Need-returns-8
-unfolding isOf
-returns-8 c = rw (c .before .enum-told5 .given .1, ne-eqb _ _ (c .if3 .left))
+returns-6 c = rw (c .before .enum-told4 .given .1, ne-eqb _ _ (c .if2 .left))
 
 pub is-spec : {M : Type 1} → statement M
 is-spec =
@@ -70,14 +56,10 @@ is-spec =
     is-idle-requires
     enum-told-3
     returns
-    is-idle-requires-2
+    is-fenced-requires
     enum-told-4
     returns-2
-    is-fenced-requires
-    enum-told-5
     returns-3
     returns-4
     returns-5
-    returns-6
-    returns-7
-    returns-8)
+    returns-6)

@@ -1,6 +1,6 @@
 -- `byte_runs::others` goes by the sort; marks of two sorts are joined. Assumes nothing.
 use borrow.Author.Needs.{needs}
-use Rattle.byte_runs.proofs.Marks.{marks-noise, marks-plain}
+use Rattle.byte_runs.proofs.Marks.{marks-plain}
 use Rattle.byte_runs.proofs.others.Statement.{statement}
 use Rattle.byte_runs.proofs.others.Tie as tie
 
@@ -22,20 +22,11 @@ enum-told-3 c = search needs
 escapes-requires-2 : tie.Need-escapes-requires-2
 escapes-requires-2 c κs = search needs
 
-busy-requires-2 : tie.Need-busy-requires-2
-busy-requires-2 c κs = search needs
-
-enum-told-4 : tie.Need-enum-told-4
-enum-told-4 c = search needs
-
-escapes-requires-3 : tie.Need-escapes-requires-3
-escapes-requires-3 c κs = search needs
-
 fences-requires : tie.Need-fences-requires
 fences-requires c κs = search needs
 
-enum-told-5 : tie.Need-enum-told-5
-enum-told-5 c = search needs
+enum-told-4 : tie.Need-enum-told-4
+enum-told-4 c = search needs
 
 ends-requires : tie.Need-ends-requires
 ends-requires c κs = search needs
@@ -49,15 +40,10 @@ returns-2 c = rw (c .before .enum-told2 .given .1) (c .busy .ensures)
 returns-3 : tie.Need-returns-3
 returns-3 c =
     let w = c .before .before .before .before .args .w in
-    rw (c .before .before .enum-told3 .given .1) (marks-noise w (c .before .escapes2 .result) (c .busy2 .result) (c .before .escapes2 .ensures) (c .busy2 .ensures))
+    rw (c .before .before .enum-told3 .given .1) (marks-plain w (c .before .escapes2 .result) (c .fences .result) (c .before .escapes2 .ensures) (c .fences .ensures))
 
 returns-4 : tie.Need-returns-4
-returns-4 c =
-    let w = c .before .before .before .before .args .w in
-    rw (c .before .before .enum-told4 .given .1) (marks-plain w (c .before .escapes3 .result) (c .fences .result) (c .before .escapes3 .ensures) (c .fences .ensures))
-
-returns-5 : tie.Need-returns-5
-returns-5 c = rw (c .before .enum-told5 .given .1) (c .ends .ensures)
+returns-4 c = rw (c .before .enum-told4 .given .1) (c .ends .ensures)
 
 pub others-spec : {M : Type 1} → statement M
 others-spec =
@@ -69,14 +55,10 @@ others-spec =
     busy-requires
     enum-told-3
     escapes-requires-2
-    busy-requires-2
-    enum-told-4
-    escapes-requires-3
     fences-requires
-    enum-told-5
+    enum-told-4
     ends-requires
     returns
     returns-2
     returns-3
-    returns-4
-    returns-5)
+    returns-4)
