@@ -4,3 +4,4 @@ pub mod Lay
 pub mod Bytes
 pub mod Linear
 pub mod Cases
+pub mod Numbers

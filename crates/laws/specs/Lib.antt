@@ -1,3 +1,4 @@
 pub mod Bytes
 pub mod Handed
+pub mod Numbers
 pub mod Wrap
