@@ -6,7 +6,8 @@ use mathlib.Core.List.{List, [], _∷_, _++_}
 use lib.ListN.{length}
 use Rattle.reading.specs.Grammar.{Rules, Piece, TheReading}
 use Rattle.reading.specs.Counts.{ledgerOf}
-use Rattle.laws.specs.Handed.{Handed, refused, value, isRefusal}
+use Rattle.laws.specs.Handed.{Handed, value, isRefusal}
+use Rattle.laws.specs.Numbers.{Refusal, numberOf, refusedAs, over-limit}
 use Rattle.link_receive.specs.declared.Receiver.{Receiver}
 use Rattle.link_receive.specs.declared.Stepped.{Stepped}
 use Rattle.link_receive.specs.Step.{rulesOf, tooLong, openOf}
@@ -39,15 +40,15 @@ ledgerAt r =
 -- 01, "Numbers handed back", 12: state with a length over its limit
 abbrev pub handed : Telling → Handed (List ℕ)
 handed (So l) = value (numbersOf l)
-handed Refused = refused 12
+handed Refused = refusedAs over-limit
 
--- the telling that has 01's number n, if any has
-abbrev pub refusedBy : ℕ → Ledger → Telling
-refusedBy n l = cond (isRefusal n (handed Refused)) Refused (So l)
+-- the telling that has the number of a refusal, if any has
+abbrev pub refusedBy : Refusal → Ledger → Telling
+refusedBy r l = cond (isRefusal (numberOf r) (handed Refused)) Refused (So l)
 
 -- what a receiver is told as: 12 if its length is over the limit, else its ledger
 unfoldable pub toldOf : Receiver → Telling
-toldOf r = cond (tooLong r) (refusedBy 12 (ledgerAt r)) (So (ledgerAt r))
+toldOf r = cond (tooLong r) (refusedBy over-limit (ledgerAt r)) (So (ledgerAt r))
 
 module _ (check : List ℕ → ℕ) where
   -- the ledger of some bytes by some rules: there is exactly one reading of them, each number is its count of pieces, and openings balance endings

@@ -49,11 +49,11 @@ module _ (input : List ℕ) (within : length input ≤ inputLimit) where
   escapeHanded-fits room h = rw (le-ltb inputLimit (length input) within, le-ltb room (length (escaped input)) h)
 
   pub escapeBytes-fits : (out : List ℕ) → length (escaped input) ≤ length out → escapeBytes input out ≡ laidOver (escaped input) out
-  unfolding escapeBytes
+  unfolding escapeBytes escapeHanded
   escapeBytes-fits out h = rw (le-ltb inputLimit (length input) within, le-ltb (length out) (length (escaped input)) h)
 
   pub escapeBytes-narrow : (out : List ℕ) → length out < length (escaped input) → escapeBytes input out ≡ out
-  unfolding escapeBytes
+  unfolding escapeBytes escapeHanded
   escapeBytes-narrow out h = rw (le-ltb inputLimit (length input) within, lt-ltb (length out) (length (escaped input)) h)
 
   -- what an answer tells of the room

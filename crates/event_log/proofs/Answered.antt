@@ -8,12 +8,11 @@ use native.Mathlib.Omega.{arith}
 use lib.ListN.{length, getD, drop}
 use lib.Dec.{ltb}
 use borrow.Author.Tests.{ltb-true, ltb-false, le-ltb, lt-ltb}
-use Rattle.laws.specs.Bytes.{Bytes, laidOver}
+use Rattle.laws.specs.Bytes.{Bytes, laidOver, laidIf}
 use Rattle.laws.specs.Handed.{Handed, refused, value}
 use Rattle.address.specs.Address.{idLimit}
 use Rattle.tables.specs.Keys.{firstOf, overOf}
 use Rattle.sound_record.specs.Record.{written, soundAt}
-use Rattle.event_record.specs.Handed.{laidIf}
 use Rattle.answers.specs.Types
 use Rattle.answers.specs.Stored.{commandKey, keptLimit}
 use Rattle.command_frames.specs.Command.{finishedIn, commandResponseIn}

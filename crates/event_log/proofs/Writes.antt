@@ -9,7 +9,7 @@ use lib.ListN.{length, take, drop, length-append, length-drop}
 use lib.Seq.{take-at, drop-at, length-take-le}
 use lib.Dec.{ltb}
 use borrow.Author.Tests.{lt-ltb, le-ltb, ltb-true, ltb-false}
-use Rattle.laws.specs.Bytes.{Bytes, laidOver}
+use Rattle.laws.specs.Bytes.{Bytes, laidOver, laidIf}
 use Rattle.laws.specs.Handed.{Handed, refused, value}
 use Rattle.laws.proofs.Lay.{length-laidOver, laidOver-append, laidOver-take}
 use Rattle.network.specs.Split.{foundAt}
@@ -17,7 +17,7 @@ use Rattle.network.specs.declared.Found.the-variants.{Packet}
 use Rattle.sound_record.specs.Record.{written, soundAt}
 use Rattle.event_record.specs.Event.{recordOf}
 use Rattle.event_record.specs.Event as kind
-use Rattle.event_record.specs.Handed.{framedHanded, recordHanded, recordBytes, laidIf}
+use Rattle.event_record.specs.Handed.{framedHanded, recordHanded, recordBytes}
 use Rattle.event_record.proofs.Written.{length-written}
 use Rattle.event_record.proofs.Fit.{fits-counter}
 use Rattle.transport_receiver.specs.Step.{slot-counter}

@@ -5,14 +5,15 @@ use mathlib.Core.List.{List, [], _∷_}
 use mathlib.Core.Option.{Option, none, some}
 use lib.ListN.{length}
 use lib.Dec.{ltb}
-use Rattle.laws.specs.Handed.{Handed, refused, value}
+use Rattle.laws.specs.Bytes.{laidIf}
+use Rattle.laws.specs.Handed.{Handed, value}
+use Rattle.laws.specs.Numbers.{row, judged, invalid-id, no-room-for-record, unsound-record}
 use Rattle.address.specs.Address.{idLimit}
 use Rattle.network.specs.Split.{packetsOf}
 use Rattle.sound_record.specs.Record.{written, bodyStart, soundAt}
 use Rattle.sound_record.specs.Log.{joined, allSound}
 use Rattle.event_record.specs.Event.{recordOf}
 use Rattle.event_record.specs.Event as kind
-use Rattle.event_record.specs.Handed.{laidIf}
 use Rattle.transport_receiver.specs.Step.{Event, enumeration-started, identity, version, enumeration-ended, slot-captured, slot-counter, command}
 
 -- a record of the log: the gateway that it names, and what it says
@@ -70,10 +71,12 @@ anyUnsound xs = not (allSound (soundAt written) (listed written xs))
 -- 01, "Numbers handed back", for an event record 13, 41, 40; of several records all or none is written: 40 if room is below their whole length
 unfoldable pub recordsHanded : List Entry → ℕ → Handed ℕ
 recordsHanded xs room =
-    cond (anyOver xs) (refused 13)
-    (cond (anyUnsound xs) (refused 41)
-    (cond (ltb room (length (bytesOf written xs))) (refused 40)
-    (value (length (bytesOf written xs)))))
+    judged
+    (row invalid-id (anyOver xs)
+    ∷ row unsound-record (anyUnsound xs)
+    ∷ row no-room-for-record (ltb room (length (bytesOf written xs)))
+    ∷ [])
+    (value (length (bytesOf written xs)))
 
 -- 01, "Numbers handed back": no refusal touches an output buffer; an accepted encoding changes only the bytes written
 abbrev pub recordsBytes : List Entry → List ℕ → List ℕ
@@ -82,7 +85,7 @@ recordsBytes xs out = laidIf (recordsHanded xs (length out)) (bytesOf written xs
 -- 01, "Numbers handed back", 13: gateway ID above 7fff, given: a frame of such a gateway is refused first, whatever records are asked for; else
 -- what is handed back for those ..
 unfoldable pub answerHanded : ℕ → List Entry → ℕ → Handed ℕ
-answerHanded gateway xs room = cond (ltb idLimit gateway) (refused 13) (recordsHanded xs room)
+answerHanded gateway xs room = judged (row invalid-id (ltb idLimit gateway) ∷ []) (recordsHanded xs room)
 
 -- .. and the lent buffer afterwards
 abbrev pub answerBytes : ℕ → List Entry → List ℕ → List ℕ

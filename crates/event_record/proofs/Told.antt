@@ -11,12 +11,12 @@ use lib.ListN.{length, getD, take, drop}
 use lib.Seq.{take-append-seam, drop-append-add, getD-append-seam}
 use lib.Dec.{ltb}
 use borrow.Author.Tests.{ltb-false}
-use Rattle.laws.specs.Bytes.{be16, be16At, laidOver}
+use Rattle.laws.specs.Bytes.{be16, be16At, laidOver, laidIf}
 use Rattle.laws.specs.Handed.{Handed, refused, value}
 use Rattle.sound_record.specs.Record.{written, soundAt, standsAt}
 use Rattle.event_record.specs.Layout.{extra, framed}
 use Rattle.event_record.specs.Event.{Event, enumeration-started, identity, version-text, enumeration-ended, slot-captured, slot-counter, packet, command, kindOf, bodyOf, recordOf, eventOf, gatewayIn, saysOf}
-use Rattle.event_record.specs.Handed.{handed, framedHanded, recordHanded, recordBytes, laidIf}
+use Rattle.event_record.specs.Handed.{handed, framedHanded, recordHanded, recordBytes}
 use Rattle.sound_record.specs.declared.Stands.the-variants.{Record, Nothing}
 use Rattle.event_record.specs.declared.Recorded.{Recorded}
 use Rattle.event_record.specs.declared.Recorded.the-variants.{Written, InvalidGateway, Unsound, NoRoom}

@@ -10,13 +10,13 @@ use lib.ListN.{length, getD, take, drop, length-append}
 use lib.Seq.{drop-at}
 use lib.Dec.{leb, eqb}
 use borrow.Author.Tests.{leb-true, lt-ltb, le-ltb}
-use Rattle.laws.specs.Bytes.{be16, be16At, laidOver}
+use Rattle.laws.specs.Bytes.{be16, be16At, laidOver, laidIf}
 use Rattle.words.specs.Words.{copiedIn}
 use Rattle.words.proofs.Laws.{copiedIn-laidOver}
 use Rattle.sound_record.specs.Record.{written, between, bodyStart, bodyLimit, isBody, soundBody, allBelow, soundAt}
 use Rattle.event_record.specs.Layout.{extra, following, framed, headOf}
 use Rattle.laws.specs.Handed.{Handed, refused, value}
-use Rattle.event_record.specs.Handed.{framedHanded, framedBytes, laidIf}
+use Rattle.event_record.specs.Handed.{framedHanded, framedBytes}
 use Rattle.sound_record.proofs.Soundness.{bodyStart-written, both, sound-body}
 
 -- no sound body is longer than kind 8 allows

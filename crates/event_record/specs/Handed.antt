@@ -1,11 +1,12 @@
 -- What an encoder hands back, in 01's numbers and values, and what it leaves in the buffer. Assumes nothing.
 use Prim.Native.Nat.{ℕ}
-use mathlib.Core.Bool.{Bool, true, false, cond, not}
-use mathlib.Core.List.{List}
+use mathlib.Core.Bool.{not}
+use mathlib.Core.List.{List, [], _∷_}
 use lib.ListN.{length}
 use lib.Dec.{ltb}
-use Rattle.laws.specs.Bytes.{laidOver}
-use Rattle.laws.specs.Handed.{Handed, refused, value}
+use Rattle.laws.specs.Bytes.{laidIf}
+use Rattle.laws.specs.Handed.{Handed, value}
+use Rattle.laws.specs.Numbers.{refusedAs, row, judged, invalid-id, no-room-for-record, unsound-record}
 use Rattle.address.specs.Address.{idLimit}
 use Rattle.sound_record.specs.Record.{written, soundAt}
 use Rattle.event_record.specs.Layout.{framed}
@@ -17,23 +18,20 @@ use Rattle.event_record.specs.declared.Recorded.the-variants.{Written, I
 -- length; else how many bytes were written
 abbrev pub handed : Recorded → Handed ℕ
 handed (Written n) = value n
-handed InvalidGateway = refused 13
-handed Unsound = refused 41
-handed NoRoom = refused 40
+handed InvalidGateway = refusedAs invalid-id
+handed Unsound = refusedAs unsound-record
+handed NoRoom = refusedAs no-room-for-record
 
 -- 01, "Numbers handed back", for an event record 13, 41, 40: gateway ID above 7fff; event whose record would not be sound; room below
 -- its whole length
 unfoldable pub framedHanded : ℕ → ℕ → List ℕ → ℕ → Handed ℕ
 framedHanded kind gateway body room =
-    cond (ltb idLimit gateway) (refused 13)
-    (cond (not (soundAt written (framed written kind gateway body))) (refused 41)
-    (cond (ltb room (length (framed written kind gateway body))) (refused 40)
-    (value (length (framed written kind gateway body)))))
-
--- 01, "Numbers handed back": no refusal touches an output buffer; an accepted encoding changes only the bytes written
-abbrev pub laidIf : Handed ℕ → List ℕ → List ℕ → List ℕ
-laidIf (refused n) xs out = out
-laidIf (value n) xs out = laidOver xs out
+    judged
+    (row invalid-id (ltb idLimit gateway)
+    ∷ row unsound-record (not (soundAt written (framed written kind gateway body)))
+    ∷ row no-room-for-record (ltb room (length (framed written kind gateway body)))
+    ∷ [])
+    (value (length (framed written kind gateway body)))
 
 -- the lent buffer afterwards: the record over its start, if it is accepted
 abbrev pub framedBytes : ℕ → ℕ → List ℕ → List ℕ → List ℕ

@@ -2,6 +2,7 @@
 use Prim.Native.Nat.{ℕ, _+_, _*_, _/_, _%_, _^_, _<_}
 use mathlib.Core.List.{List, [], _∷_, _++_}
 use lib.ListN.{length, getD, drop}
+use Rattle.laws.specs.Handed.{Handed, refused, value}
 
 -- every element is a byte (past the end `getD` gives 0, which is one)
 abbrev pub Bytes : List ℕ → Type 0
@@ -30,3 +31,8 @@ be16At xs at = of16 (getD xs at 0) (getD xs (at + 1) 0)
 -- 01, "Numbers handed back": an accepted encoding changes only the bytes written: a buffer with xs written over its start
 abbrev pub laidOver : List ℕ → List ℕ → List ℕ
 laidOver xs out = xs ++ drop (length xs) out
+
+-- 01, "Numbers handed back": no refusal touches an output buffer: what an encoder leaves of a buffer, by what it hands back and what it writes
+abbrev pub laidIf : Handed ℕ → List ℕ → List ℕ → List ℕ
+laidIf (refused n) xs out = out
+laidIf (value n) xs out = laidOver xs out

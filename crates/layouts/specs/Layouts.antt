@@ -5,7 +5,8 @@ use mathlib.Core.List.{List, [], _∷_}
 use lib.ListN.{length, getD, take, drop}
 use lib.Dec.{eqb, ltb}
 use Rattle.laws.specs.Bytes.{be16At}
-use Rattle.laws.specs.Handed.{Handed, refused, value}
+use Rattle.laws.specs.Handed.{Handed, value}
+use Rattle.laws.specs.Numbers.{refusedAs, wrong-length, names-from}
 use Rattle.address.specs.declared.Address.{Address}
 use Rattle.address.specs.declared.Address.the-variants.{From, To}
 use Rattle.address.specs.Address.{addressOf}
@@ -22,7 +23,7 @@ use Rattle.layouts.specs.declared.EnumerationStartRequest.{EnumerationSt
 -- 01, "Numbers handed back", 21: wrong or short fixed length
 abbrev pub handed : {A : Type 0} → Length → A → Handed A
 handed Right a = value a
-handed Wrong a = refused 21
+handed Wrong a = refusedAs wrong-length
 
 -- a payload of exactly so many bytes, where 01 says "exactly"
 abbrev pub exactly : ℕ → List ℕ → Length
@@ -113,7 +114,7 @@ namedOf address = toGateway (addressOf (be16At address 0))
 -- 01, "Numbers handed back", 28: enumeration start names a From address
 abbrev pub handedNamed : Named → Handed ℕ
 handedNamed (Gateway g) = value (g .0)
-handedNamed FromAddress = refused 28
+handedNamed FromAddress = refusedAs names-from
 
 -- WHAT THE STEP READS, each from its layout
 

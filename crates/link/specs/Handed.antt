@@ -1,12 +1,12 @@
 -- What `encode` hands back, in 01's numbers and values, and what it writes, over any check. Assumes nothing.
 use Prim.Native.Nat.{ℕ, _+_}
-use mathlib.Core.Bool.{cond}
-use mathlib.Core.List.{List}
+use mathlib.Core.List.{List, [], _∷_}
 use lib.ListN.{length}
 use lib.Seq.{paste}
 use lib.Dec.{ltb}
-use Rattle.laws.specs.Bytes.{laidOver}
-use Rattle.laws.specs.Handed.{Handed, refused, value}
+use Rattle.laws.specs.Bytes.{laidIf}
+use Rattle.laws.specs.Handed.{Handed, value}
+use Rattle.laws.specs.Numbers.{refusedAs, row, judged, too-long, no-room, invalid-id}
 use Rattle.address.specs.Address.{idLimit, gatewayOf}
 use Rattle.address.specs.declared.Address.{Address}
 use Rattle.link.specs.Wire.{Frame, end, payloadLimit, encodedOf}
@@ -17,17 +17,17 @@ use Rattle.link.specs.declared.Encoded.the-variants.{Written, InvalidID,
 -- bytes were written
 abbrev pub handed : Encoded → Handed ℕ
 handed (Written n) = value n
-handed InvalidID = refused 13
-handed TooLong = refused 10
-handed NoRoom = refused 11
+handed InvalidID = refusedAs invalid-id
+handed TooLong = refusedAs too-long
+handed NoRoom = refusedAs no-room
 
 -- 01, "Numbers handed back", 11: room below the exact length
 abbrev pub writtenHanded : List ℕ → ℕ → Handed ℕ
-writtenHanded wire room = cond (ltb room (length wire)) (refused 11) (value (length wire))
+writtenHanded wire room = judged (row no-room (ltb room (length wire)) ∷ []) (value (length wire))
 
--- 01, "Numbers handed back": no refusal touches an output buffer. An accepted encoding changes only the bytes written
+-- the lent bytes afterwards: the bytes of the wire over their start, if they have room
 abbrev pub writtenBytes : List ℕ → List ℕ → List ℕ
-writtenBytes wire out = cond (ltb (length out) (length wire)) out (laidOver wire out)
+writtenBytes wire out = laidIf (writtenHanded wire (length out)) wire out
 
 -- a start written over a buffer, and the end m bytes behind it
 abbrev pub bracketed : List ℕ → ℕ → List ℕ → List ℕ
@@ -40,20 +40,18 @@ frameFor a frameType payload = record { address = a; frameType = frameType; payl
 module _ (check : List ℕ → ℕ) where
   -- 01, "Numbers handed back", 10: encode: payload over 250; then 11: of a frame whose gateway ID is at most 7fff
   unfoldable pub numberedHanded : Frame → ℕ → Handed ℕ
-  numberedHanded f room = cond (ltb payloadLimit (length (f .payload))) (refused 10) (writtenHanded (encodedOf check f) room)
+  numberedHanded f room = judged (row too-long (ltb payloadLimit (length (f .payload))) ∷ []) (writtenHanded (encodedOf check f) room)
 
-  -- the lent bytes afterwards: a payload over 250 leaves them as they are
+  -- the lent bytes afterwards: the frame's bytes over their start, if it is accepted
   unfoldable pub numberedBytes : Frame → List ℕ → List ℕ
-  numberedBytes f out = cond (ltb payloadLimit (length (f .payload))) out (writtenBytes (encodedOf check f) out)
+  numberedBytes f out = laidIf (numberedHanded f (length out)) (encodedOf check f) out
 
   -- 01, "Numbers handed back": for encode 13, 10, 11
   unfoldable pub encodeHanded : Address → ℕ → List ℕ → ℕ → Handed ℕ
   encodeHanded a frameType payload room =
-      cond (ltb idLimit (gatewayOf a)) (refused 13)
-      (numberedHanded (frameFor a frameType payload) room)
+      judged (row invalid-id (ltb idLimit (gatewayOf a)) ∷ []) (numberedHanded (frameFor a frameType payload) room)
 
-  -- the lent bytes afterwards: a gateway ID above 7fff leaves them as they are
+  -- the lent bytes afterwards: the frame's bytes over their start, if it is accepted
   unfoldable pub encodeBytes : Address → ℕ → List ℕ → List ℕ → List ℕ
   encodeBytes a frameType payload out =
-      cond (ltb idLimit (gatewayOf a)) out
-      (numberedBytes (frameFor a frameType payload) out)
+      laidIf (encodeHanded a frameType payload (length out)) (encodedOf check (frameFor a frameType payload)) out

@@ -3,7 +3,8 @@ use Prim.Native.Nat.{ℕ}
 use mathlib.Core.List.{List, [], _∷_}
 use lib.ListN.{take, drop}
 use mathlib.Core.Bool.{cond}
-use Rattle.laws.specs.Handed.{Handed, refused, value, isRefusal}
+use Rattle.laws.specs.Handed.{Handed, value, isRefusal}
+use Rattle.laws.specs.Numbers.{refusedAs, over-limit}
 use Rattle.address.specs.declared.Address.{Address}
 use Rattle.link.specs.Wire as wire
 use Rattle.link_receive.specs.declared.Answer.{Answer}
@@ -18,7 +19,7 @@ pub data Given : Type 0 where
 abbrev pub handed : Answer → Handed Given
 handed Nothing = value nothing
 handed (Frame address t n) = value (frame address (t .0) n)
-handed Refused = refused 12
+handed Refused = refusedAs over-limit
 
 -- the answer that has 01's number n; `Nothing`, where none has
 abbrev pub refusedBy : ℕ → Answer

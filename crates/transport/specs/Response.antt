@@ -5,6 +5,7 @@ use mathlib.Core.List.{List, [], _∷_}
 use lib.ListN.{length, getD, drop}
 use lib.Dec.{ltb}
 use Rattle.laws.specs.Bytes.{be16At}
+use Rattle.laws.specs.Numbers.{numberOf as refusalNumber, wrong-status, too-short}
 use Rattle.transport.specs.declared.OptionalByte.{OptionalByte}
 use Rattle.transport.specs.declared.OptionalByte.the-variants.{One, NoByte}
 use Rattle.transport.specs.declared.OptionalPair.{OptionalPair}
@@ -53,5 +54,5 @@ pub data Told : Type 0 where
 -- 01, "Numbers handed back", 23: gives the length needed; 22 goes with the status word
 abbrev pub handedRead : ReceiveRead → Told
 handedRead (Response r area) = fields r area
-handedRead (TooShort n) = refused 23 n
-handedRead (UnknownStatusType status) = refused 22 status
+handedRead (TooShort n) = refused (refusalNumber too-short) n
+handedRead (UnknownStatusType status) = refused (refusalNumber wrong-status) status

@@ -4,7 +4,7 @@ use borrow.Author.Tests.{lt-ltb, le-ltb}
 use Rattle.address.specs.Address.{addressOf}
 use Rattle.address.specs.Handed.{handedNumber}
 use Rattle.address.proofs.Laws.{number-accepted, number-refused, addressOf-numberOf}
-use Rattle.link.specs.Handed.{encodeHanded, encodeBytes}
+use Rattle.link.specs.Handed.{encodeHanded, encodeBytes, numberedBytes}
 use borrow.Author.Needs.{needs}
 use Rattle.link.proofs.encode.Statement.{statement}
 use Rattle.link.proofs.encode.Tie as tie
@@ -25,7 +25,7 @@ same-length : tie.Need-same-length
 same-length c = search needs
 
 returns : tie.Need-returns
-unfolding encodeHanded encodeBytes
+unfolding encodeHanded encodeBytes numberedBytes
 returns c =
     let a = c .before .before .before .before .before .before .before .before .before .before .args in
     let x = number-accepted (a .address) _ (sym (c .before .before .before .before .before .before .before .to-u16 .ensures) ∙ ap handedNumber (c .before .before .before .before .before .number .given .1)) in
