@@ -2,6 +2,7 @@
 use Prim.Native.Nat.{ℕ, _+_}
 use mathlib.Core.Bool.{Bool, true, false, cond}
 use mathlib.Core.List.{List, [], _∷_}
+use Rattle.laws.specs.Numbers.{over-limit}
 use Rattle.link_receive.specs.declared.Answer.{Answer}
 use Rattle.link_receive.specs.declared.Answer.the-variants.{Nothing, Frame, Refused}
 use Rattle.link_receive.specs.declared.Receiver.{Receiver}
@@ -28,4 +29,4 @@ module _ (check : List ℕ → ℕ) where
 
   -- 12 if its length is over the limit: nothing is taken, of an empty slice too
   unfoldable pub feedOf : Receiver → List ℕ → Fed
-  feedOf r s = cond (tooLong r) (stopped r (refusedBy 12) 0) (feedFrom r s 0)
+  feedOf r s = cond (tooLong r) (stopped r (refusedBy over-limit) 0) (feedFrom r s 0)

@@ -4,7 +4,7 @@ use mathlib.Core.List.{List, [], _∷_}
 use lib.ListN.{take, drop}
 use mathlib.Core.Bool.{cond}
 use Rattle.laws.specs.Handed.{Handed, value, isRefusal}
-use Rattle.laws.specs.Numbers.{refusedAs, over-limit}
+use Rattle.laws.specs.Numbers.{Refusal, numberOf, refusedAs, over-limit}
 use Rattle.address.specs.declared.Address.{Address}
 use Rattle.link.specs.Wire as wire
 use Rattle.link_receive.specs.declared.Answer.{Answer}
@@ -21,9 +21,9 @@ handed Nothing = value nothing
 handed (Frame address t n) = value (frame address (t .0) n)
 handed Refused = refusedAs over-limit
 
--- the answer that has 01's number n; `Nothing`, where none has
-abbrev pub refusedBy : ℕ → Answer
-refusedBy n = cond (isRefusal n (handed Refused)) Refused Nothing
+-- the answer that has the number of a refusal; `Nothing`, where none has
+abbrev pub refusedBy : Refusal → Answer
+refusedBy r = cond (isRefusal (numberOf r) (handed Refused)) Refused Nothing
 
 -- the payload in a body: what follows address and type
 abbrev pub payloadOf : ℕ → List ℕ → List ℕ

@@ -4,7 +4,7 @@ use mathlib.Core.Bool.{cond}
 use mathlib.Core.List.{List, [], _∷_}
 use lib.ListN.{getD, replicate}
 use lib.Dec.{eqb}
-use Rattle.laws.specs.Numbers.{numberOf, over-limit}
+use Rattle.laws.specs.Numbers.{over-limit}
 use Rattle.link_receive.specs.declared.State.{State}
 use Rattle.link_receive.specs.declared.State.the-variants.{Idle, Noise, StartOfFrame, Frame, FrameEscape, Giant, GiantEscape}
 use Rattle.link_receive.specs.declared.Receiver.{Receiver}
@@ -77,5 +77,5 @@ numbersOf r = stateNumber (r .state) ∷ r .len ∷ eightOf (r .tallies)
 -- 01, "Numbers handed back", 12: a state with a length over its limit has no numbers to hand out
 unfoldable pub numbersTold : Receiver → Numbers
 numbersTold r =
-    cond (tooLong r) (record { numbers = replicate numberCount 0; answer = refusedBy (numberOf over-limit) })
+    cond (tooLong r) (record { numbers = replicate numberCount 0; answer = refusedBy over-limit })
     (record { numbers = numbersOf r; answer = Nothing })

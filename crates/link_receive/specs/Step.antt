@@ -5,7 +5,7 @@ use mathlib.Core.List.{List}
 use lib.ListN.{set, take, replicate}
 use lib.Dec.{eqb, ltb}
 use Rattle.laws.specs.Bytes.{be16At}
-use Rattle.laws.specs.Numbers.{numberOf, over-limit}
+use Rattle.laws.specs.Numbers.{over-limit}
 use Rattle.escaping.specs.Escapes.{Meaning, datum, opener, closer, neither, meaning, unescapedOf}
 use Rattle.address.specs.Address.{addressOf}
 use Rattle.reading.specs.Counters.{Counter}
@@ -128,7 +128,7 @@ closedOf r (Dropped x) = quiet (countedOf r (counterOf x) Idle)
 
 -- the refusal 12: nothing changes
 abbrev pub refusedOf : Receiver → Stepped
-refusedOf r = record { next = r; answer = refusedBy (numberOf over-limit) }
+refusedOf r = record { next = r; answer = refusedBy over-limit }
 
 -- 01: a reset sets all eight to 0 and keeps state and body
 unfoldable pub resetOf : Receiver → Stepped

@@ -3,9 +3,10 @@ use Prim.Native.Nat.{ℕ}
 use mathlib.Core.Bool.{cond}
 use mathlib.Core.List.{List}
 use lib.ListN.{drop}
+use Rattle.laws.specs.Numbers.{over-limit}
 use Rattle.layouts.specs.Layouts.{longAddress, responseData}
 use Rattle.transport_receiver.specs.State.{Frame, stateOf, payloadAt}
-use Rattle.transport_receiver.specs.Step.{Event, enumeration-started, identity, version, enumeration-ended, slot-captured, slot-counter, command, Outcome, refused, refused-with, silent, event, Result}
+use Rattle.transport_receiver.specs.Step.{Event, enumeration-started, identity, version, enumeration-ended, slot-captured, slot-counter, command, Outcome, refused, refused-with, silent, event, Result, refusedAs}
 use Rattle.transport_receiver.specs.declared.Stepped.{Stepped}
 use Rattle.transport_receiver.specs.declared.WasReset.{WasReset}
 use Rattle.answers.specs.declared.Answer.{Answer}
@@ -38,4 +39,4 @@ told f t = record { outcome = handed (t .receiver .commands .payloads) f (t .ans
 
 -- and of a reset
 abbrev pub toldReset : WasReset → Result
-toldReset w = record { outcome = cond (w .over) (refused 12) silent; state = stateOf (w .receiver) }
+toldReset w = record { outcome = cond (w .over) (refusedAs over-limit) silent; state = stateOf (w .receiver) }

@@ -6,6 +6,7 @@ use mathlib.Core.Option.{Option, none, some}
 use lib.ListN.{length, getD, take, drop, replicate}
 use lib.Dec.{eqb, ltb}
 use Rattle.laws.specs.Bytes.{be16At}
+use Rattle.laws.specs.Numbers.{Refusal, numberOf as refusalNumber, over-limit, invalid-id, wrong-direction, wrong-length, wrong-status, too-short, unknown-gateway, numbers-full, sequences-full, commands-full, names-from, no-text, no-request, unhandled-type, payload-too-long}
 use Rattle.address.specs.Address.{idLimit, gatewayOf, isFrom, addressOf}
 use Rattle.link.specs.Wire.{payloadLimit}
 use Rattle.utf8.specs.Scan.{isText}
@@ -38,6 +39,10 @@ pub data Outcome : Type 0 where
   refused-with : ℕ → ℕ → Outcome
   silent : Outcome
   event : Event → Outcome
+
+-- a refusal, handed back by its number
+abbrev pub refusedAs : Refusal → Outcome
+refusedAs r = refused (refusalNumber r)
 
 -- a number of 01's table, with a value or without
 abbrev pub isRefusal : Outcome → Bool
@@ -115,28 +120,28 @@ row h o c = record { holds = h; outcome = o; counter = c }
 -- 01, "Numbers handed back": the order 12, 13, 32 ..
 abbrev pub rowsOfAny : State → Frame → List Row → List Row
 rowsOfAny s f rows =
-    row (overLimit (s .tables .commands)) (refused 12) none
-    ∷ row (ltb idLimit (f .gateway)) (refused 13) none
-    ∷ row (ltb payloadLimit (length (f .payload))) (refused 32) none
+    row (overLimit (s .tables .commands)) (refusedAs over-limit) none
+    ∷ row (ltb idLimit (f .gateway)) (refusedAs invalid-id) none
+    ∷ row (ltb payloadLimit (length (f .payload))) (refusedAs payload-too-long) none
     ∷ rows
 
 -- .. 31, 20, 24, 21 (for a receive response 23 if under 2 bytes, then 22, then 23), 28, 29, 26, 27, 25, 30.
 -- Refusals 20 to 24 and 28 to 31 raise the source's counter for that case; the others raise none
 abbrev pub rowsOfType : State → Frame → List Row
 rowsOfType s f =
-    row (not (isNamed (f .frameType))) (refused 31) (some Counters.unhandled-frame-type)
-    ∷ row (wrongDirection f) (refused 20) (some (invalidOf (f .frameType)))
-    ∷ row (eqb (f .frameType) Types.receive-response && not (isHeld (s .tables .numbers) (gatewayKeyOf f))) (refused 24) (some Counters.receive-response-from-unknown-gateway)
-    ∷ row (wrongLength f) (refused 21) (some (invalidOf (f .frameType)))
-    ∷ row (eqb (f .frameType) Types.receive-response && ltb (length (f .payload)) 2) (refused-with 23 5) (some (invalidOf (f .frameType)))
-    ∷ row (eqb (f .frameType) Types.receive-response && not (acceptedOf (statusOf f))) (refused 22) (some (invalidOf (f .frameType)))
-    ∷ row (eqb (f .frameType) Types.receive-response && ltb (length (f .payload)) (neededOf (statusOf f))) (refused-with 23 (neededOf (statusOf f))) (some (invalidOf (f .frameType)))
-    ∷ row (eqb (f .frameType) Types.enumeration-start-request && isFrom (enumerationAddress (f .payload))) (refused 28) (some (invalidOf (f .frameType)))
-    ∷ row (eqb (f .frameType) Types.version-response && not (isText (f .payload))) (refused 29) (some (invalidOf (f .frameType)))
-    ∷ row (eqb (f .frameType) Types.command-request && not (hasRoom (s .tables .sequences) (gatewayKeyOf f))) (refused 26) none
-    ∷ row (eqb (f .frameType) Types.command-request && not (hasRoom (s .tables .commands) (keyOf f))) (refused 27) none
-    ∷ row (eqb (f .frameType) Types.receive-request && not (hasRoom (s .tables .numbers) (gatewayKeyOf f))) (refused 25) none
-    ∷ row (eqb (f .frameType) Types.command-response && not (isHeld (s .tables .commands) (answerKeyOf f))) (refused 30) (some Counters.retransmitted-command-responses)
+    row (not (isNamed (f .frameType))) (refusedAs unhandled-type) (some Counters.unhandled-frame-type)
+    ∷ row (wrongDirection f) (refusedAs wrong-direction) (some (invalidOf (f .frameType)))
+    ∷ row (eqb (f .frameType) Types.receive-response && not (isHeld (s .tables .numbers) (gatewayKeyOf f))) (refusedAs unknown-gateway) (some Counters.receive-response-from-unknown-gateway)
+    ∷ row (wrongLength f) (refusedAs wrong-length) (some (invalidOf (f .frameType)))
+    ∷ row (eqb (f .frameType) Types.receive-response && ltb (length (f .payload)) 2) (refused-with (refusalNumber too-short) 5) (some (invalidOf (f .frameType)))
+    ∷ row (eqb (f .frameType) Types.receive-response && not (acceptedOf (statusOf f))) (refusedAs wrong-status) (some (invalidOf (f .frameType)))
+    ∷ row (eqb (f .frameType) Types.receive-response && ltb (length (f .payload)) (neededOf (statusOf f))) (refused-with (refusalNumber too-short) (neededOf (statusOf f))) (some (invalidOf (f .frameType)))
+    ∷ row (eqb (f .frameType) Types.enumeration-start-request && isFrom (enumerationAddress (f .payload))) (refusedAs names-from) (some (invalidOf (f .frameType)))
+    ∷ row (eqb (f .frameType) Types.version-response && not (isText (f .payload))) (refusedAs no-text) (some (invalidOf (f .frameType)))
+    ∷ row (eqb (f .frameType) Types.command-request && not (hasRoom (s .tables .sequences) (gatewayKeyOf f))) (refusedAs sequences-full) none
+    ∷ row (eqb (f .frameType) Types.command-request && not (hasRoom (s .tables .commands) (keyOf f))) (refusedAs commands-full) none
+    ∷ row (eqb (f .frameType) Types.receive-request && not (hasRoom (s .tables .numbers) (gatewayKeyOf f))) (refusedAs numbers-full) none
+    ∷ row (eqb (f .frameType) Types.command-response && not (isHeld (s .tables .commands) (answerKeyOf f))) (refusedAs no-request) (some Counters.retransmitted-command-responses)
     ∷ []
 
 -- a state with other counters
@@ -253,7 +258,7 @@ stepOf s f = judged (rowsOfAny s f (rowsOfType s f)) s f
 -- 01, "Transport": their reset clears nothing else; 12 refuses it as it does a frame
 unfoldable pub resetOf : State → Result
 resetOf s =
-    cond (overLimit (s .tables .commands)) (record { outcome = refused 12; state = s })
+    cond (overLimit (s .tables .commands)) (record { outcome = refusedAs over-limit; state = s })
     (record { outcome = silent; state = counting s (replicate counterCount 0) })
 
 -- what a receiver is given, one after another: a frame, or the reset of its counters

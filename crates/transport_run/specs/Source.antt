@@ -8,6 +8,7 @@ use mathlib.Core.Option.{Option, none, some}
 use lib.ListN.{length, drop, replicate}
 use lib.Dec.{eqb, ltb}
 use Rattle.laws.specs.Bytes.{be16At}
+use Rattle.laws.specs.Numbers.{Refusal, numberOf as refusalNumber, over-limit, numbers-full, sequences-full, commands-full, payload-too-long}
 use Rattle.address.specs.Address.{idLimit, isFrom, gatewayOf}
 use Rattle.utf8.specs.Scan.{isText}
 use Rattle.tables.specs.Places.{valueAt, inserted, deleted}
@@ -17,7 +18,7 @@ use Rattle.layouts.specs.Layouts.{commandRequestLength, commandResponseLength, 
 use Rattle.answers.specs.Counters
 use Rattle.answers.specs.Counters.{raise, countPackets, counterCount}
 use Rattle.answers.specs.Types
-use Rattle.answers.specs.Types.{isOneOf, counterOf}
+use Rattle.answers.specs.Types.{counterOf}
 use Rattle.answers.specs.Stored.{repeats}
 use Rattle.transport_receiver.specs.State.{Tables, State, Frame, Command, stateOf, fresh}
 use Rattle.transport_receiver.specs.Step.{Event, enumeration-started, identity, version, enumeration-ended, slot-captured, slot-counter, command, Outcome, refused, refused-with, silent, event, statusOf, gatewayKeyOf, keyOf, answerKeyOf, isLast, requestOf, Input, frame, reset, takenOf}
@@ -185,13 +186,18 @@ sourceAfter x (frame f) = sourceOf x f .after
 sourceAfter x reset = record { maps = x .maps; counters = replicate counterCount 0 }
 
 -- 01, "What comes over": .. in the whole run so far, no refusal 10 to 12, 25 to 27, 32, 40 or 41, which are added: those that a step or a reset gives
-abbrev pub addedNumbers : List ℕ
-addedNumbers = 12 ∷ 25 ∷ 26 ∷ 27 ∷ 32 ∷ []
+abbrev pub added : List Refusal
+added = over-limit ∷ numbers-full ∷ sequences-full ∷ commands-full ∷ payload-too-long ∷ []
+
+-- whether a number is that of one of some refusals
+abbrev pub isOneAmong : List Refusal → ℕ → Bool
+isOneAmong [] n = false
+isOneAmong (r ∷ rs) n = cond (eqb n (refusalNumber r)) true (isOneAmong rs n)
 
 -- whether a step or a reset gave one of them
 abbrev pub isAdded : Outcome → Bool
-isAdded (refused n) = isOneOf addedNumbers n
-isAdded (refused-with n value) = isOneOf addedNumbers n
+isAdded (refused n) = isOneAmong added n
+isAdded (refused-with n value) = isOneAmong added n
 isAdded silent = false
 isAdded (event e) = false
 
