@@ -91,6 +91,17 @@ fn crc_four(start: u64, b: &[u8]) -> u64
     settle((start ^ half_at(b, 0)) << 32)
 }
 
+// The check of four to seven bytes: of four, which a frame with no payload has, by the short way.
+fn crc_short(start: u64, b: &[u8]) -> u64
+    requires { ⌜ (start < 2 ^ 16) × (4 ≤ length (now b)) × (length (now b) < 8) ⌝ }
+    ensures { λ r. ⌜ r ≡ crcFrom start (now (b .entry)) ⌝ }
+{
+    if b.len() == 4 {
+        return crc_four(start, b);
+    }
+    crc_few(start, b)
+}
+
 // The check of eight bytes or more, a word at a time.
 fn crc_words(start: u64, b: &[u8]) -> u64
     requires { ⌜ 8 ≤ length (now b) ⌝ }
@@ -140,11 +151,8 @@ fn crc_wide(start: u64, b: &[u8]) -> u64
     requires { ⌜ (start < 2 ^ 16) × (4 ≤ length (now b)) ⌝ }
     ensures { λ r. ⌜ r ≡ crcFrom start (now (b .entry)) ⌝ }
 {
-    if b.len() == 4 {
-        return crc_four(start, b);
-    }
     if b.len() < 8 {
-        return crc_few(start, b);
+        return crc_short(start, b);
     }
     if b.len() < 32 {
         return crc_words(start, b);
