@@ -422,16 +422,46 @@ fn bad_days(size: usize) -> Rows {
     rows.stream("broken by 7e 09 after a unit", cycled(size, &[0x7e, 0x07, 0x41, 0x7e, 0x09]));
     rows.stream("runts, 7e 07 7e 08", cycled(size, &[0x7e, 0x07, 0x7e, 0x08]));
     rows.stream("runts of one unit and noise", cycled(size, &[0x7e, 0x07, 0x41, 0x7e, 0x08, 0x41]));
+    rows.stream("frames of one unit", cycled(size, &[0x7e, 0x07, 0x41, 0x7e, 0x08]));
+    rows.stream("frames of one escape", cycled(size, &[0x7e, 0x07, 0x7e, 0x00, 0x7e, 0x08]));
+    rows.stream("runts of 0 to 5 random units", move || {
+        let mut rng = Rng::of(2, "runts");
+        repeated(size, || {
+            let n = rng.within(0, 5);
+            let mut one = vec![0xff, 0x7e, 0x07];
+            one.extend((0..n).map(|_| rng.pick(&[0x41, 0x42, 0x00, 0xff])));
+            one.extend([0x7e, 0x08]);
+            one
+        })
+    });
     rows.stream("wrong checks of six", cycled(size, &[0xff, 0x7e, 0x07, 1, 2, 3, 4, 5, 6, 0x7e, 0x08]));
     rows.stream("empty pings", frames_of(size, vec![]));
     rows.stream("random empty pings", move || encoded(size, 0, 0));
     rows.stream("frames of 250 times 7e", frames_of(size, vec![0x7e; 250]));
     rows.stream("frames of 41 7e by turns", frames_of(size, [0x41, 0x7e].repeat(125)));
     rows.stream("frames of 41 41 41 a5 by turns", frames_of(size, [0x41, 0x41, 0x41, 0xa5].repeat(62)));
+    rows.stream("frames of escapes and others at random", move || {
+        let mut rng = Rng::of(2, "escapes");
+        repeated(size, || {
+            let payload = (0..rng.within(20, 250)).map(|_| rng.pick(&[0x7e, 0x24, 0xa3, 0x41, 0x42])).collect();
+            Plain { address: 0x9201, kind: 0x0b00, payload }.encode()
+        })
+    });
+    rows.stream("a noise before each short frame", move || {
+        let mut rng = Rng::of(2, "one noise");
+        repeated(size, || {
+            let mut one = vec![0x41];
+            let n = rng.within(0, 14);
+            one.extend(Plain { address: 0x1201, kind: 0x0b01, payload: rng.bytes(n) }.encode());
+            one
+        })
+    });
+    rows.stream("outside pairs 7e 08", cycled(size, &[0x7e, 0x08]));
     rows.stream("random of 00 41", random_of(size, &[0x00, 0x41]));
     rows.stream("random of 00 41 7e", random_of(size, &[0x00, 0x41, 0x7e]));
     rows.stream("random of 7e 07", random_of(size, &[0x7e, 0x07]));
     rows.stream("random of 7e 07 08", random_of(size, &[0x7e, 0x07, 0x08]));
+    rows.stream("random of 00 ff 41 7e 07 08", random_of(size, &[0x00, 0xff, 0x41, 0x7e, 0x07, 0x08]));
     rows.stream("random of 7e 07 08 00 01 06 ff 41 24", random_of(size, &[0x7e, 0x07, 0x08, 0x00, 0x01, 0x06, 0xff, 0x41, 0x24]));
     rows.stream("runs of 1 to 3 of 00 41 7e 07 08", runs_of(size, 3, &[0x00, 0x41, 0x7e, 0x07, 0x08]));
     rows.stream("runs of 1 to 17 of 00 41", runs_of(size, 17, &[0x00, 0x41]));
