@@ -74,8 +74,8 @@ fn escapes(w: u64) -> u64
 fn busy(w: u64) -> u64
     ensures { λ r. ⌜ Marks (isOf Sort.Idle) w r ⌝ }
 {
-    let t = (w & 0x7f7f7f7f7f7f7f7f) + 0x0101010101010101;
-    let v = (t ^ (w & 0x8080808080808080)) & 0xfefefefefefefefe;
+    let t = (w & 0x7f7f7f7f7f7f7f7f) + (w & 0x7f7f7f7f7f7f7f7f);
+    let v = (t ^ w) & 0xfefefefefefefefe;
     (((v & 0x7f7f7f7f7f7f7f7f) + 0x7f7f7f7f7f7f7f7f) | v) & 0x8080808080808080
 }
 

@@ -165,7 +165,7 @@ pub fn turns_left(turns: u64, ok: bool) -> u64
 }
 
 // Writes a line, a name of at most 100 bytes and a number in decimal, and tells whether that went well.
-pub fn print_line(name: &[u8], n: u64) -> bool {
+fn print_line(name: &[u8], n: u64) -> bool {
     let mut digits = [0u8; 20];
     let k = io::decimal(n, &mut digits);
     let mut line = [0u8; 128];
@@ -182,15 +182,40 @@ pub fn print_line(name: &[u8], n: u64) -> bool {
     o.ok
 }
 
+// Writes a line for each number, behind its name. The names stand on end, each with a space behind it; all is well where they end first.
+pub fn print_lines(names: &[u8], numbers: &[u64]) -> bool {
+    let mut at = 0;
+    let mut i = 0;
+    while i < numbers.len() {
+        let end = bytes::scan::find(names, at, names.len(), b' ');
+        if names.len() <= end {
+            break;
+        }
+        let next = end + 1;
+        if !print_line(&names[at..next], numbers[i]) {
+            return false;
+        }
+        at = next;
+        i += 1;
+    }
+    true
+}
+
 // Writes a ledger, 01's nine lines, and tells whether that went well.
 pub fn print_ledger(l: Ledger) -> bool {
-    print_line(b"openings ", l.openings)
-        && print_line(b"frames ", l.frames)
-        && print_line(b"runts ", l.runts)
-        && print_line(b"checksums ", l.checksums)
-        && print_line(b"giants ", l.giants)
-        && print_line(b"escaped ", l.escaped)
-        && print_line(b"broken ", l.broken)
-        && print_line(b"noise ", l.noise)
-        && print_line(b"open ", l.unfinished)
+    let numbers = [
+        l.openings,
+        l.frames,
+        l.runts,
+        l.checksums,
+        l.giants,
+        l.escaped,
+        l.broken,
+        l.noise,
+        l.unfinished,
+    ];
+    print_lines(
+        b"openings frames runts checksums giants escaped broken noise open ",
+        &numbers,
+    )
 }

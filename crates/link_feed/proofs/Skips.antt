@@ -13,7 +13,7 @@ use lib.ListN.{length, getD, set, take, drop, length-set}
 use lib.Seq.{paste}
 use borrow.Author.Tests.{eqb-true, not-true, lt-ltb, eq-eqb, ne-eqb}
 use Rattle.byte_runs.specs.Runs.{isOf, lead, All, laid}
-use Rattle.byte_runs.proofs.Laws.{run-inside, run-all, copy-room, copy-inside, copy-all, length-laid, laid-paste}
+use Rattle.byte_runs.proofs.Laws.{run-inside, run-all, run-stops, copy-room, copy-inside, copy-all, length-laid, laid-paste}
 use Rattle.byte_runs.specs.declared.Sort.the-variants as sort
 use Rattle.laws.proofs.Cases.{by, never}
 use Rattle.reading.specs.Grammar.{Rules}
@@ -64,6 +64,11 @@ turnOf-calm rules false len b e = by (eqb b 0x7e) (λ x. rw x) (λ x. rw x)
 calm-7e : (b : ℕ) → b ≡ 0x7e → isOf sort.Calm b ≡ true
 unfolding isOf
 calm-7e b e = rw e
+
+-- 07 and 08 are no 7e
+not-calm : (b : ℕ) → isOf sort.Calm b ≡ false → b ≡ 0x7e → ⊥
+unfolding isOf
+not-calm b e x = never (sym (rw x at e))
 
 -- the pairs of a row of 7e: one 7e more turns it over, and any other byte leaves none begun
 not-first : (x y : Bool) → (not x && y) ≡ true → x ≡ false
@@ -199,6 +204,10 @@ module _ (check : List ℕ → ℕ) (o : Receiver) (s : List ℕ) where
 
       pub tail-whole : halfAt s i (i + m - i) ≡ false → Skipped check o s i₀ (i + m)
       tail-whole f = skipped-tail m tail-inside all (ap (halfAt s i) (sym behind) ∙ f)
+
+  module _ (i₀ i m : ℕ) (k : Skipped check o s i₀ i) (e : m ≡ lead (isOf sort.Calm) (drop i s)) where
+    pub tail-past : halfAt s i (i + m - i) ≡ false → i + m < length s → Skipped check o s i₀ (i + m + 1)
+    tail-past f h = skipped-byte i₀ (i + m) (tail-whole i₀ i k m e f) h (not-calm (getD s (i + m) 0) (run-stops (isOf sort.Calm) s i m (k .inside) e h))
 
   -- one skip behind another
   pub skipped-then : (i j l : ℕ) → Skipped check o s i j → Skipped check o s j l → Skipped check o s i l

@@ -48,35 +48,38 @@ fn few(s: &[u8], i0: usize, end: usize) -> usize
     i
 }
 
-// All up to the next 07 or 08 at once, or, if that one ends a pair or the slice ends within one, up to the pair.
-fn leap(s: &[u8], i: usize) -> usize
-    requires { ⌜ i ≤ length (now s) ⌝ }
-    ensures { λ r. ⌜ Skipped crcOf freshOf (now (s .entry)) i r ⌝ }
-{
-    let k = byte_runs::run(Sort::Calm, s, i);
-    let j = i + k;
-    if half(s, i, j) {
-        return j - 1;
+// How many units are taken one by one after a run: none after a long one, after each short one on end some more.
+fn paced(pace: usize, went: usize) -> usize {
+    if 4 <= went {
+        return 0;
     }
-    j
+    if pace < 64 { pace + 8 } else { 64 }
 }
 
-// What an overlong tail skips, as far as the slice has it whole: all before the pair that opens or closes a frame. After a leap that went far
-// the next one is tried soon, after a short one late.
+// What an overlong tail skips, as far as the slice has it whole: all before the pair that opens or closes a frame. All up to the next 07 or 08
+// goes at once; where it ends no pair, it is skipped too.
 pub fn tail(s: &[u8], i0: usize) -> usize
     requires { ⌜ i0 ≤ length (now s) ⌝ }
     ensures { λ r. ⌜ Skipped crcOf freshOf (now (s .entry)) i0 r ⌝ }
 {
     let mut i = i0;
-    let mut pace = 1;
+    let mut pace = 0;
     while i < s.len() {
-        let end = end_of(s.len(), i, pace);
-        let from = few(s, i, end);
-        if from < end {
-            return from;
+        let k = byte_runs::run(Sort::Calm, s, i);
+        let j = i + k;
+        if half(s, i, j) {
+            return j - 1;
         }
-        i = leap(s, from);
-        pace = if i - from < 4 { 32 } else { 1 };
+        if j == s.len() {
+            return j;
+        }
+        let next = j + 1;
+        pace = paced(pace, k);
+        let end = end_of(s.len(), next, pace);
+        i = few(s, next, end);
+        if i < end {
+            break;
+        }
     }
     i
 }

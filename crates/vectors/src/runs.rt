@@ -1,4 +1,5 @@
 // What a row asks: the function of its file is run on the row's input, and its answer and bytes are laid beside the row's.
+ghost use mathlib.Core.Path.{_≡_};
 ghost use Prim.Native.Nat.{_+_, _≤_, _<_};
 ghost use lib.ListN.{length};
 use address::Address;
@@ -35,11 +36,18 @@ pub enum Line {
     Comment,
 }
 
+// Room for the longest field, all of it one byte.
+fn room(b: u8) -> [u8; 70000]
+    ensures { λ r. ⌜ 70000 ≡ length r ⌝ }
+{
+    [b; 70000]
+}
+
 // The line of a text that starts at a place.
 pub fn read_line(letter: u8, text: &[u8], from: usize) -> Line
     requires { ⌜ from < length (now text) ⌝ }
 {
-    let mut input = [0u8; 70000];
+    let mut input = room(0x00);
     let a = crate::rows::field(text, from, &mut input);
     let at = a.next;
     let len = a.len;
@@ -55,7 +63,7 @@ pub fn read_line(letter: u8, text: &[u8], from: usize) -> Line
 fn judge(letter: u8, input: &[u8], text: &[u8], at: usize) -> Line
     requires { ⌜ at ≤ length (now text) ⌝ }
 {
-    let mut expected = [0u8; 70000];
+    let mut expected = room(0x00);
     let b = crate::rows::field(text, at, &mut expected);
     let len = b.len;
     compare(letter, input, &expected[..len])
@@ -63,7 +71,7 @@ fn judge(letter: u8, input: &[u8], text: &[u8], at: usize) -> Line
 
 // The row with a given input and given expected bytes.
 fn compare(letter: u8, input: &[u8], expected: &[u8]) -> Line {
-    let mut got = [0xeeu8; 70000];
+    let mut got = room(0xee);
     let n = run(letter, input, &mut got);
     if check::same(&got[..n], expected) {
         Line::Agrees

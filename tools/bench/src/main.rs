@@ -394,6 +394,8 @@ fn bad_days(size: usize) -> Rows {
     let mut rows = Rows::default();
     rows.stream("a tail of 07", tail_of(size, &[0x07]));
     rows.stream("a tail of 08 41", tail_of(size, &[0x08, 0x41]));
+    rows.stream("a tail of 41 41 41 41 07", tail_of(size, &[0x41, 0x41, 0x41, 0x41, 0x07]));
+    rows.stream("a tail of 41 41 41 41 41 41 7e 41 08", tail_of(size, &[0x41, 0x41, 0x41, 0x41, 0x41, 0x41, 0x7e, 0x41, 0x08]));
     rows.stream("a tail of 7e 7e", tail_of(size, &[0x7e]));
     rows.stream("a tail of 7e 41", tail_of(size, &[0x7e, 0x41]));
     rows.stream("a tail of 7e 7e 07", tail_of(size, &[0x7e, 0x7e, 0x07]));

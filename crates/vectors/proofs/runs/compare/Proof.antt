@@ -6,6 +6,9 @@ use borrow.Author.Needs.{needs}
 use Rattle.vectors.proofs.runs.compare.Statement.{statement}
 use Rattle.vectors.proofs.runs.compare.Tie as tie
 
+room-requires : tie.Need-room-requires
+room-requires c κs = search needs
+
 slice-aggregate-run : tie.Need-slice-aggregate-run
 slice-aggregate-run c = search needs
 
@@ -31,6 +34,7 @@ pub compare-spec : {M : Type 1} → statement M
 compare-spec =
     tie.close
     (tie.spec
+    room-requires
     slice-aggregate-run
     run-requires
     array-share-prefix-got

@@ -6,6 +6,9 @@ use borrow.Author.Needs.{needs}
 use Rattle.vectors.proofs.runs.judge.Statement.{statement}
 use Rattle.vectors.proofs.runs.judge.Tie as tie
 
+room-requires : tie.Need-room-requires
+room-requires c κs = search needs
+
 slice-aggregate-field : tie.Need-slice-aggregate-field
 slice-aggregate-field c = search needs
 
@@ -28,6 +31,7 @@ pub judge-spec : {M : Type 1} → statement M
 judge-spec =
     tie.close
     (tie.spec
+    room-requires
     slice-aggregate-field
     field-requires
     array-share-prefix-expected

@@ -6,6 +6,9 @@ use borrow.Author.Needs.{needs}
 use Rattle.vectors.proofs.runs.read_line.Statement.{statement}
 use Rattle.vectors.proofs.runs.read_line.Tie as tie
 
+room-requires : tie.Need-room-requires
+room-requires c κs = search needs
+
 slice-aggregate-field : tie.Need-slice-aggregate-field
 slice-aggregate-field c = search needs
 
@@ -40,6 +43,7 @@ pub read-line-spec : {M : Type 1} → statement M
 read-line-spec =
     tie.close
     (tie.spec
+    room-requires
     slice-aggregate-field
     field-requires
     shared-slice-read-if2
