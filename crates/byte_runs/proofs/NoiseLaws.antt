@@ -1,5 +1,5 @@
 -- Laws of noises: of bytes on end, of the marks of a word, and of what `noises` tells. Assumes nothing.
-use mathlib.Core.Path.{_≡_, refl, sym, ap, ap₂, _∙_, subst}
+use mathlib.Core.Path.{_≡_, refl, sym, ap, ap₂, _∙_, subst, subst⁻¹}
 use mathlib.Core.Bool.{Bool, true, false, cond, not}
 use mathlib.Core.List.{List, [], _∷_, _++_}
 use Prim.Native.Nat.{ℕ, zero, suc, _+_, _-_, _*_, _/_, _%_, _^_, _≤_, _<_, suc-le-suc}
@@ -10,7 +10,6 @@ use borrow.Author.Tests.{eqb-true}
 use lib.Dec.{eqb}
 use lib.Pow.{shr-shr, mod-pow-add}
 use lib.Bits.{bitAnd, bitOr, bitXor, and-block, xor-block, and-lt, xor-lt, and-zero-r, or-shifted}
-use lib.Count.{ones, onesIn, ones-cat}
 use lib.ListN.{length, getD, take, drop, replicate, length-take, length-drop, drop-of-length-le}
 use lib.Seq.{take-add, take-take, drop-drop, drop-cons}
 use Rattle.laws.specs.Bytes.{Bytes}
@@ -92,18 +91,50 @@ behind-is z before n bs e ez eb =
     ∙ ap₂ (λ (x y : ℕ). (x * 256 + y) % 2 ^ 64) ez eb
     ∙ sym (behindOf-mod n bs 64 (omega arith))
 
--- `begun` cites this: a byte is one noise if it is marked and the one before it is not
-counted : (t n : Bool) (f : Bool → ℕ) → f (not t) + ones (bitAnd (bitAnd (of t) (bitXor (tick n) 255)) 255) ≡ cond t (f false) (cond n (f true) (suc (f true)))
-unfolding ones onesIn
+-- `begun` cites this: the marks of a word, each the highest bit of its byte, are c in number; shifted down, their remainder by 255 adds them up,
+-- since 256 leaves 1
+record Adds (v c : ℕ) : Type 0 where
+  low : v % 128 ≡ 0
+  sum : v / 128 % 255 ≡ c % 255
+
+mod-255 : (k w : ℕ) → (255 * k + w) % 255 ≡ w % 255
+mod-255 k w = omega arith
+
+adds-more : (v c x u : ℕ) → Adds v c → x ≡ 128 * u → Adds (v * 256 + x) (c + u)
+adds-more v c x u a e =
+    let q = v / 128 in
+    let w = q % 255 + u in
+    let up : (v * 256 + x) / 128 ≡ 255 * (q + q / 255) + w = omega (arith, a .low) in
+    let on : c + u ≡ 255 * (c / 255) + w = omega (arith, a .sum) in
+    record {
+      low = omega (arith, a .low);
+      sum = ap (λ (n : ℕ). n % 255) up ∙ mod-255 (q + q / 255) w ∙ sym (ap (λ (n : ℕ). n % 255) on ∙ mod-255 (c / 255) w);
+    }
+
+-- a byte is one noise if it is marked and the one before it is not
+abbrev fresh : Bool → Bool → ℕ
+fresh true n = 0
+fresh false true = 0
+fresh false false = 1
+
+fresh-is : (t n : Bool) → bitAnd (bitAnd (of t) (bitXor (tick n) 255)) 255 ≡ 128 * fresh t n
+fresh-is true true = refl
+fresh-is true false = refl
+fresh-is false true = refl
+fresh-is false false = refl
+
+counted : (t n : Bool) (f : Bool → ℕ) → f (not t) + fresh t n ≡ cond t (f false) (cond n (f true) (suc (f true)))
 counted true n f = add-zero (f false)
 counted false true f = add-zero (f true)
 counted false false f = add-one (f true)
 
-ones-begun : (k : ℕ) (n : Bool) (bs : List ℕ) → k ≤ length bs → ones (bitAnd (bitAnd (marked (isOf sort.Idle) bs) (bitXor (behindOf n bs) (leOf (replicate (length bs) 0xff)))) (leOf (replicate k 0xff))) ≡ noisesOf n (take k bs)
-unfolding behindOf noisesOf isOf ones
-ones-begun zero n bs h = ap ones (and-zero-r (bitAnd (marked (isOf sort.Idle) bs) (bitXor (behindOf n bs) (leOf (replicate (length bs) 0xff)))))
-ones-begun (suc k) n [] h = absurd (not-suc-le-zero h)
-ones-begun (suc k) n (b ∷ bs) h =
+adds-begun : (k : ℕ) (n : Bool) (bs : List ℕ) → k ≤ length bs → Adds (bitAnd (bitAnd (marked (isOf sort.Idle) bs) (bitXor (behindOf n bs) (leOf (replicate (length bs) 0xff)))) (leOf (replicate k 0xff))) (noisesOf n (take k bs))
+unfolding behindOf noisesOf isOf
+adds-begun zero n bs h =
+    subst (λ (v : ℕ). Adds v 0) (sym (and-zero-r (bitAnd (marked (isOf sort.Idle) bs) (bitXor (behindOf n bs) (leOf (replicate (length bs) 0xff))))))
+    (record { low = refl; sum = refl })
+adds-begun (suc k) n [] h = absurd (not-suc-le-zero h)
+adds-begun (suc k) n (b ∷ bs) h =
     let t = idle b in
     let m = marked (isOf sort.Idle) bs in
     let p = behindOf (not t) bs in
@@ -112,20 +143,23 @@ ones-begun (suc k) n (b ∷ bs) h =
     let full : 255 < 256 = omega arith in
     let hx : bitXor (tick n) 255 < 256 = xor-lt 8 (tick n) 255 (tick-lt n) full in
     let ha : bitAnd (of t) (bitXor (tick n) 255) < 256 = and-lt 8 (of t) (bitXor (tick n) 255) (of-lt t) hx in
-    ap (λ (x : ℕ). ones (bitAnd (bitAnd (m * 256 + of t) x) (r * 256 + 255))) (xor-block 8 p f (tick n) 255 (tick-lt n) full)
-    ∙ ap (λ (x : ℕ). ones (bitAnd x (r * 256 + 255))) (and-block 8 m (bitXor p f) (of t) (bitXor (tick n) 255) (of-lt t) hx)
-    ∙ ap ones (and-block 8 (bitAnd m (bitXor p f)) r (bitAnd (of t) (bitXor (tick n) 255)) 255 ha full)
-    ∙ ones-cat 8 (bitAnd (bitAnd m (bitXor p f)) r) (bitAnd (bitAnd (of t) (bitXor (tick n) 255)) 255) (and-lt 8 (bitAnd (of t) (bitXor (tick n) 255)) 255 ha full)
-    ∙ ap (λ (x : ℕ). x + ones (bitAnd (bitAnd (of t) (bitXor (tick n) 255)) 255)) (ones-begun k (not t) bs (le-of-suc-le-suc h))
-    ∙ counted t n (λ m. noisesOf m (take k bs))
+    let word =
+    ap (λ (x : ℕ). bitAnd (bitAnd (m * 256 + of t) x) (r * 256 + 255)) (xor-block 8 p f (tick n) 255 (tick-lt n) full)
+    ∙ ap (λ (x : ℕ). bitAnd x (r * 256 + 255)) (and-block 8 m (bitXor p f) (of t) (bitXor (tick n) 255) (of-lt t) hx)
+    ∙ and-block 8 (bitAnd m (bitXor p f)) r (bitAnd (of t) (bitXor (tick n) 255)) 255 ha full in
+    subst⁻¹ (λ (v : ℕ). Adds v (cond t (noisesOf false (take k bs)) (cond n (noisesOf true (take k bs)) (suc (noisesOf true (take k bs)))))) word
+    (subst (Adds (bitAnd (bitAnd m (bitXor p f)) r * 256 + bitAnd (bitAnd (of t) (bitXor (tick n) 255)) 255)) (counted t n (λ m. noisesOf m (take k bs)))
+    (adds-more (bitAnd (bitAnd m (bitXor p f)) r) (noisesOf (not t) (take k bs)) (bitAnd (bitAnd (of t) (bitXor (tick n) 255)) 255) (fresh t n) (adds-begun k (not t) bs (le-of-suc-le-suc h)) (fresh-is t n)))
 
-pub begun-is : (z was m : ℕ) → Begun z was m (ones (bitAnd (bitAnd z (bitXor was 0xffffffffffffffff)) m))
+pub begun-is : (z was m : ℕ) → Begun z was m (bitAnd (bitAnd z (bitXor was 0xffffffffffffffff)) m / 2 ^ 7 % 255)
 begun-is z was m n bs k e ez ew h em =
     let v = marked (isOf sort.Idle) bs in
     let full : 0xffffffffffffffff ≡ leOf (replicate (length bs) 0xff) = ap (λ (l : ℕ). leOf (replicate l 0xff)) (sym e) in
-    ap₂ (λ (x y : ℕ). ones (bitAnd (bitAnd x (bitXor y 0xffffffffffffffff)) m)) ez ew
-    ∙ ap₂ (λ (x y : ℕ). ones (bitAnd (bitAnd v (bitXor (behindOf n bs) x)) y)) full em
-    ∙ ones-begun k n bs (omega arith)
+    let a = adds-begun k n bs (omega arith) in
+    ap₂ (λ (x y : ℕ). bitAnd (bitAnd x (bitXor y 0xffffffffffffffff)) m / 2 ^ 7 % 255) ez ew
+    ∙ ap₂ (λ (x y : ℕ). bitAnd (bitAnd v (bitXor (behindOf n bs) x)) y / 2 ^ 7 % 255) full em
+    ∙ a .sum
+    ∙ omega (arith, noisesOf-le n (take k bs), length-take k bs)
 
 -- `noisy_at` cites this
 tick-and : (n : Bool) → bitAnd (tick n) 128 ≡ tick n
@@ -315,7 +349,6 @@ module _ (n : Bool) (s : List ℕ) (i before count a l w z : ℕ) (x : Hears n s
   same = take-take 8 8 (drop a s) (le-refl 8)
 
   pub hears-idle : z ≡ 0 → Hears n s i 0 count (a + 8)
-  unfolding ones onesIn
   hears-idle e =
       let ez : 0 ≡ marked (isOf sort.Idle) bytes = sym e ∙ fz bytes eight in
       subst (λ (c : ℕ). Hears n s i 0 c (a + 8)) (add-zero count)

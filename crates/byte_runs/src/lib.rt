@@ -243,11 +243,12 @@ fn behind(z: u64, before: u64) -> u64
     (z << 8) | before
 }
 
-// How many of the bytes that `m` fills have a mark that follows none.
+// How many of the bytes that `m` fills have a mark that follows none. A mark is the highest bit of its byte: shifted down it counts one there, and
+// the remainder by 255 adds up the bytes of a word, since 256 leaves 1.
 fn begun(z: u64, was: u64, m: u64) -> usize
     ensures { λ r. ⌜ Begun z was m r ⌝ }
 {
-    u64::count_ones(z & (was ^ 0xffffffffffffffff) & m) as usize
+    (((z & (was ^ 0xffffffffffffffff) & m) >> 7) % 255) as usize
 }
 
 // The mark of what stands before the byte at k.

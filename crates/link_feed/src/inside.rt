@@ -95,7 +95,11 @@ pub fn inside(len: usize, tallies: &mut [u64], body: &mut [u8], s: &[u8], i: usi
         };
     }
     raise(tallies, Tally::Broken);
-    raise(tallies, Tally::Noise);
+    // No frame has more units. Asked here, it keeps the compiler from raising both tallies as one word of 16 bytes, which would have to wait for
+    // the last store to either.
+    if p.len <= Receiver::MAX_FRAME_SIZE {
+        raise(tallies, Tally::Noise);
+    }
     Advanced {
         state: State::Noise,
         len: 0,

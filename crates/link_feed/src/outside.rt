@@ -109,7 +109,14 @@ fn words(noisy: bool, s: &[u8], i: usize) -> Heard
     byte_runs::noises(noisy, s, i)
 }
 
-// All up to an opener, a lone last 7e or the slice's end.
+// How many bytes are taken one by one after a run by words: more where there was none.
+fn window(went: usize) -> usize
+    ensures { λ r. ⌜ 1 ≤ r ⌝ }
+{
+    if went == 0 { 16 } else { 8 }
+}
+
+// All up to an opener, a lone last 7e or the slice's end, the first run by words.
 fn quiet(noisy0: bool, s: &[u8], i0: usize) -> Heard
     requires { ⌜ i0 ≤ length (now s) ⌝ }
     ensures { λ r. ⌜ Passed crcOf freshOf (now (s .entry)) noisy0 i0 r × Awaits (now (s .entry)) (r .at) ⌝ }
@@ -120,7 +127,7 @@ fn quiet(noisy0: bool, s: &[u8], i0: usize) -> Heard
     while i < s.len() {
         let h = words(noisy, s, i);
         let from = h.at;
-        let end = end_of(s.len(), from, 8);
+        let end = end_of(s.len(), from, window(from - i));
         let q = few(h.noisy, s, from, end);
         noisy = q.noisy;
         count = count + h.count + q.count;
@@ -176,7 +183,7 @@ fn lull(noisy: bool, s: &[u8], i: usize) -> usize
     i + byte_runs::run(Sort::Idle, s, i)
 }
 
-// The same as `quiet`, with the way that most frames begin looked for first.
+// The same as `quiet`, with the way that most frames begin looked for first, and then some bytes one by one.
 fn calm(noisy: bool, s: &[u8], i: usize) -> Heard
     requires { ⌜ i < length (now s) ⌝ }
     ensures { λ r. ⌜ Passed crcOf freshOf (now (s .entry)) noisy i r × Awaits (now (s .entry)) (r .at) ⌝ }
@@ -189,7 +196,18 @@ fn calm(noisy: bool, s: &[u8], i: usize) -> Heard
             at: start,
         };
     }
-    quiet(noisy, s, start)
+    let end = end_of(s.len(), start, 8);
+    let f = few(noisy, s, start, end);
+    let from = f.at;
+    if from < end {
+        return f;
+    }
+    let q = quiet(f.noisy, s, from);
+    Heard {
+        noisy: q.noisy,
+        count: f.count + q.count,
+        at: q.at,
+    }
 }
 
 // So many noises more.

@@ -59,10 +59,21 @@ same-length-5 c = search needs
 
 returns-3 : tie.Need-returns-3
 returns-3 c =
-    let a = c .before .before .before .before .before .before .before .before .before .before .before .before .before .before .before .before .before .before .args in
-    let u = c .before .before .before .before .before .before .before .before .before .before .before .before .before .units in
+    let a = c .before .before .before .before .before .before .before .before .before .before .before .before .before .before .before .before .before .before .before .before .args in
+    let u = c .before .before .before .before .before .before .before .before .before .before .before .before .before .before .before .units in
     let p = u .ensures .coded (omega arith) in
-    stretched-breaker crcOf (a .s .now) freshOf (a .body .now) (a .len) (talliesAt (a .tallies .now)) (a .i) (u .last .1 .0) (u .result) (u .ensures) _ (u .result .code) (p .1) (p .0) (c .before .before .before .before .before .before .before .before .if2 .left) (c .before .before .raise2 .ensures ∙ ap (raise k.noise) (c .before .before .before .before .before .before .raise .ensures))
+    stretched-breaker crcOf (a .s .now) freshOf (a .body .now) (a .len) (talliesAt (a .tallies .now)) (a .i) (u .last .1 .0) (u .result) (u .ensures) _ (u .result .code) (p .1) (p .0) (c .before .before .before .before .before .before .before .before .before .before .if2 .left) (c .before .before .raise2 .ensures ∙ ap (raise k.noise) (c .before .before .before .before .before .before .before .before .raise .ensures))
+
+same-length-6 : tie.Need-same-length-6
+same-length-6 c = search needs
+
+same-length-7 : tie.Need-same-length-7
+same-length-7 c = search needs
+
+-- no frame has more units than the limit
+returns-4 : tie.Need-returns-4
+unfolding rulesOf
+returns-4 c = absurd (omega (arith, c .before .before .before .before .before .before .before .before .before .before .before .units .ensures .within, c .if3 .left))
 
 pub inside-spec : {M : Type 1} → statement M
 inside-spec =
@@ -80,4 +91,7 @@ inside-spec =
     raise-requires-2
     same-length-4
     same-length-5
-    returns-3)
+    returns-3
+    same-length-6
+    same-length-7
+    returns-4)
