@@ -1,6 +1,6 @@
 // An open frame: its units, raw and escaped, and the pair that closes or breaks it.
 ghost use mathlib.Core.Path.{_≡_};
-ghost use Prim.Native.Nat.{_≤_};
+ghost use Prim.Native.Nat.{_+_, _≤_};
 ghost use lib.ListN.{length};
 ghost use Rattle.crc.specs.Crc.{crcOf};
 ghost use Rattle.link_receive.specs.declared.State.the-variants.{Frame};
@@ -18,8 +18,21 @@ use link_receive::Receiver;
 use link_receive::State;
 use link_receive::Tally;
 
-// The units of an open frame, raw and escaped, as far as there is room and the slice has them whole. A raw byte before a 7e is taken by itself: the
-// start of a loop over words would cost more.
+// Whether a 7e stands at one of the two places behind this one, or no two bytes stand there.
+fn soon(s: &[u8], i: usize) -> bool
+    requires { ⌜ i + 2 ≤ length (now s) ⌝ }
+{
+    if s[i + 1] == 0x7e {
+        return true;
+    }
+    if s.len() - i < 3 {
+        return true;
+    }
+    s[i + 2] == 0x7e
+}
+
+// The units of an open frame, raw and escaped, as far as there is room and the slice has them whole. A raw byte that has a 7e soon behind it is
+// taken by itself: the start of a loop over words would cost more.
 fn units(len0: usize, body: &mut [u8], s: &[u8], i0: usize) -> Units
     requires { ⌜ (len0 ≤ limit) × (length (now body) ≡ room) × (i0 ≤ length (now s)) ⌝ }
     ensures { λ r. ⌜ Ahead crcOf freshOf (now (s .entry)) (now (body .entry)) len0 i0 (now (body .exit)) r ⌝ }
@@ -52,7 +65,7 @@ fn units(len0: usize, body: &mut [u8], s: &[u8], i0: usize) -> Units
         if Receiver::MAX_FRAME_SIZE <= len {
             break;
         }
-        if c == 0x7e {
+        if soon(s, i) {
             body[len] = b;
             len += 1;
             i += 1;

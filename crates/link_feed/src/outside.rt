@@ -113,7 +113,7 @@ fn words(noisy: bool, s: &[u8], i: usize) -> Heard
 fn window(went: usize) -> usize
     ensures { λ r. ⌜ 1 ≤ r ⌝ }
 {
-    if went == 0 { 16 } else { 8 }
+    if went == 0 { 64 } else { 8 }
 }
 
 // All up to an opener, a lone last 7e or the slice's end, the first run by words.

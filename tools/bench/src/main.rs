@@ -4,6 +4,9 @@
 //! could make and whose runs are of one or two bytes. At the end stands each group's worst ratio.
 //!
 //!     race [ROUNDS [MIB [NAME]]]      NAME: only the rows whose name has it
+//!     race search [LEAST]             some 5,600 small streams, made by rule: those whose ratio is LEAST (0.8) or more, the worst first
+mod search;
+
 use driver::doors;
 use driver::doors::link as ours;
 use driver::make;
@@ -419,11 +422,16 @@ fn bad_days(size: usize) -> Rows {
     rows.stream("41 41 00", cycled(size, &[0x41, 0x41, 0x00]));
     rows.stream("outside pairs 7e 7e", cycled(size, &[0x7e]));
     rows.stream("outside pairs 7e 00 ff", cycled(size, &[0x7e, 0x00, 0xff]));
+    rows.stream("outside pairs 7e 00 ff ff", cycled(size, &[0x7e, 0x00, 0xff, 0xff]));
     rows.stream("outside pairs 41 7e 41", cycled(size, &[0x41, 0x7e, 0x41]));
     rows.stream("broken at once, 7e 07 7e 07", cycled(size, &[0x7e, 0x07, 0x7e, 0x07]));
+    rows.stream("opened and broken by turns, 7e 07 41", cycled(size, &[0x7e, 0x07, 0x41]));
+    rows.stream("opened and broken by turns, 7e 07 41 41", cycled(size, &[0x7e, 0x07, 0x41, 0x41]));
+    rows.stream("opened and broken by turns, 7e 07 00 00", cycled(size, &[0x7e, 0x07, 0x00, 0x00]));
     rows.stream("broken by 7e 09 after a unit", cycled(size, &[0x7e, 0x07, 0x41, 0x7e, 0x09]));
     rows.stream("runts, 7e 07 7e 08", cycled(size, &[0x7e, 0x07, 0x7e, 0x08]));
     rows.stream("runts of one unit and noise", cycled(size, &[0x7e, 0x07, 0x41, 0x7e, 0x08, 0x41]));
+    rows.stream("runts of two units", cycled(size, &[0xff, 0x7e, 0x07, 0x41, 0x41, 0x7e, 0x08]));
     rows.stream("frames of one unit", cycled(size, &[0x7e, 0x07, 0x41, 0x7e, 0x08]));
     rows.stream("frames of one escape", cycled(size, &[0x7e, 0x07, 0x7e, 0x00, 0x7e, 0x08]));
     rows.stream("runts of 0 to 5 random units", move || {
@@ -460,6 +468,7 @@ fn bad_days(size: usize) -> Rows {
     });
     rows.stream("outside pairs 7e 08", cycled(size, &[0x7e, 0x08]));
     rows.stream("random of 00 41", random_of(size, &[0x00, 0x41]));
+    rows.stream("random of 41 7e", random_of(size, &[0x41, 0x7e]));
     rows.stream("random of 00 41 7e", random_of(size, &[0x00, 0x41, 0x7e]));
     rows.stream("random of 7e 07", random_of(size, &[0x7e, 0x07]));
     rows.stream("random of 7e 07 08", random_of(size, &[0x7e, 0x07, 0x08]));
@@ -477,6 +486,9 @@ fn bad_days(size: usize) -> Rows {
 
 fn main() {
     let words: Vec<String> = std::env::args().skip(1).collect();
+    if words.first().map_or(false, |w| w == "search") {
+        return search::search(words.get(1).map_or(0.8, |w| w.parse().expect("race search [LEAST]")));
+    }
     let number = |i: usize, n: usize| words.get(i).map_or(n, |w| w.parse().expect("race [ROUNDS [MIB [NAME]]]"));
     let (rounds, size) = (number(0, 21), number(1, 16) << 20);
     println!("{rounds} rounds by turns; {} MiB a row; ns a byte, then MB/s at the best; below 1 in the last two columns ours is faster", size >> 20);

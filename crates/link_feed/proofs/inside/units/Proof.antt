@@ -75,8 +75,11 @@ returns c =
     let u = c .before .before .unescaped-byte in
     held-coded crcOf freshOf (a .s .now) (a .body .now) (a .len0) (a .i0) (l .body) (l .len) (l .i) (l .inv) (getD (a .s .now) (l .i + 1) 0) (omega arith) (c .before .before .before .if1 .taken) (u .result) (u .ensures) (c .enum-told .given .1) refl
 
+soon-requires : tie.Need-soon-requires Inv-loop μ-loop
+soon-requires c κs = search needs
+
 slice-write-body-2 : tie.Need-slice-write-body-2 Inv-loop μ-loop
-slice-write-body-2 c = omega (arith, c .before .before .before .before .before .before .loop .inv .sized)
+slice-write-body-2 c = omega (arith, c .before .before .before .before .before .before .before .loop .inv .sized)
 
 add-len-2 : tie.Need-add-len-2 Inv-loop μ-loop
 add-len-2 c = search needs
@@ -90,9 +93,9 @@ loop-less-2 c = search needs
 loop-again-2 : tie.Need-loop-again-2 Inv-loop μ-loop
 unfolding rulesOf
 loop-again-2 c =
-    let a = c .before .before .before .before .before .before .before .before .before .args in
-    let l = c .before .before .before .before .before .before .loop in
-    held-byte crcOf freshOf (a .s .now) (a .body .now) (a .len0) (a .i0) (l .body) (l .len) (l .i) (l .inv) (omega arith) (omega arith) (raw-other _ (c .before .before .if1 .left))
+    let a = c .before .before .before .before .before .before .before .before .before .before .args in
+    let l = c .before .before .before .before .before .before .before .loop in
+    held-byte crcOf freshOf (a .s .now) (a .body .now) (a .len0) (a .i0) (l .body) (l .len) (l .i) (l .inv) (omega arith) (omega arith) (raw-other _ (c .before .before .before .if1 .left))
 
 copy-run-requires : tie.Need-copy-run-requires Inv-loop μ-loop
 copy-run-requires c κs = search needs
@@ -100,16 +103,16 @@ copy-run-requires c κs = search needs
 add-len-3 : tie.Need-add-len-3 Inv-loop μ-loop
 unfolding rulesOf
 add-len-3 c =
-    let a = c .before .before .before .before .before .before .before .before .before .before .before .before .before .args in
-    let l = c .before .before .before .before .before .before .before .before .before .before .loop in
+    let a = c .before .before .before .before .before .before .before .before .before .before .before .before .before .before .args in
+    let l = c .before .before .before .before .before .before .before .before .before .before .before .loop in
     let run = c .before .before .copy-run in
     let g = held-run crcOf freshOf (a .s .now) (a .body .now) (a .len0) (a .i0) (l .body) (l .len) (l .i) (l .inv) limit-full (run .last .1 .0) (run .result) (run .ensures .0) (run .ensures .1) in
     omega (arith, g .ahead .within)
 
 add-i-3 : tie.Need-add-i-3 Inv-loop μ-loop
 add-i-3 c =
-    let a = c .before .before .before .before .before .before .before .before .before .before .before .before .before .args in
-    let l = c .before .before .before .before .before .before .before .before .before .before .loop in
+    let a = c .before .before .before .before .before .before .before .before .before .before .before .before .before .before .args in
+    let l = c .before .before .before .before .before .before .before .before .before .before .before .loop in
     let run = c .before .before .copy-run in
     let g = held-run crcOf freshOf (a .s .now) (a .body .now) (a .len0) (a .i0) (l .body) (l .len) (l .i) (l .inv) limit-full (run .last .1 .0) (run .result) (run .ensures .0) (run .ensures .1) in
     omega (arith, g .ahead .inside)
@@ -117,16 +120,16 @@ add-i-3 c =
 loop-less-3 : tie.Need-loop-less-3 Inv-loop μ-loop
 unfolding rulesOf
 loop-less-3 c =
-    let a = c .before .before .before .before .before .before .before .before .before .before .before .before .before .args in
-    let l = c .before .before .before .before .before .before .before .before .before .before .loop in
+    let a = c .before .before .before .before .before .before .before .before .before .before .before .before .before .before .args in
+    let l = c .before .before .before .before .before .before .before .before .before .before .before .loop in
     let run = c .before .before .copy-run in
     let g = held-run crcOf freshOf (a .s .now) (a .body .now) (a .len0) (a .i0) (l .body) (l .len) (l .i) (l .inv) limit-full (run .last .1 .0) (run .result) (run .ensures .0) (run .ensures .1) in
-    omega (arith, g .ahead .inside, run-some (a .s .now) (l .i) (length (l .body) - l .len) (run .result) (omega (arith, l .inv .sized)) (omega arith) (raw-other _ (c .before .before .before .before .before .before .if1 .left)) (run .ensures .0))
+    omega (arith, g .ahead .inside, run-some (a .s .now) (l .i) (length (l .body) - l .len) (run .result) (omega (arith, l .inv .sized)) (omega arith) (raw-other _ (c .before .before .before .before .before .before .before .if1 .left)) (run .ensures .0))
 
 loop-again-3 : tie.Need-loop-again-3 Inv-loop μ-loop
 loop-again-3 c =
-    let a = c .before .before .before .before .before .before .before .before .before .before .before .before .before .args in
-    let l = c .before .before .before .before .before .before .before .before .before .before .loop in
+    let a = c .before .before .before .before .before .before .before .before .before .before .before .before .before .before .args in
+    let l = c .before .before .before .before .before .before .before .before .before .before .before .loop in
     let run = c .before .before .copy-run in
     held-run crcOf freshOf (a .s .now) (a .body .now) (a .len0) (a .i0) (l .body) (l .len) (l .i) (l .inv) limit-full (run .last .1 .0) (run .result) (run .ensures .0) (run .ensures .1)
 
@@ -169,6 +172,7 @@ units-spec =
     enum-told
     same-length
     returns
+    soon-requires
     slice-write-body-2
     add-len-2
     add-i-2
