@@ -469,6 +469,8 @@ fn bad_days(size: usize) -> Rows {
     rows.stream("outside pairs 7e 08", cycled(size, &[0x7e, 0x08]));
     rows.stream("random of 00 41", random_of(size, &[0x00, 0x41]));
     rows.stream("random of 41 7e", random_of(size, &[0x41, 0x7e]));
+    rows.stream("random of 00 7e", random_of(size, &[0x00, 0x7e]));
+    rows.stream("runs of 1 to 2 of 00 7e", runs_of(size, 2, &[0x00, 0x7e]));
     rows.stream("random of 00 41 7e", random_of(size, &[0x00, 0x41, 0x7e]));
     rows.stream("random of 7e 07", random_of(size, &[0x7e, 0x07]));
     rows.stream("random of 7e 07 08", random_of(size, &[0x7e, 0x07, 0x08]));

@@ -20,6 +20,10 @@ fn tried(name: String, s: &[u8]) -> Found {
         let a = timed(&mut || rust_frames(black_box(s)));
         let b = timed(&mut || our_frames(black_box(s)));
         assert_eq!(a.1, b.1, "{name}: the two sides disagree");
+        // so short a round now and then ends before the clock has moved
+        if a.0 == 0.0 || b.0 == 0.0 {
+            continue;
+        }
         rust = rust.min(a.0 / s.len() as f64);
         ours = ours.min(b.0 / s.len() as f64);
     }
