@@ -1,14 +1,13 @@
 #!/usr/bin/env python3
-"""An independent model of 01, "Transport", "Numbers handed back" and "Event record", with 02's correction W-203 of the repeat mark: what the sound
-frames of a stream do to the tables and counters, and the event log. The frames come from the model of the grammar, ledger.py. It follows the
-papers, and for the counters the names, their order and which is raised (`Counters` of the source document transport/receiver.rs); the proved code
-is not consulted.
+"""An independent model of 01, "Transport", "Numbers handed back" and "Event record": what the sound frames of a stream do to the tables and
+counters, and the event log. The frames come from the model of the grammar, ledger.py. It follows the paper, and for the counters the names, their
+order and which is raised (`Counters` of the source document transport/receiver.rs); the proved code is not consulted.
 
     events.py FILE                    writes the event log of the bytes of FILE ('-': standard input)
     events.py --ledger FILE           prints the ledger's nine lines and the 33 counters
     events.py --answers FILE          prints how often each refusal, each event and no event came
     events.py --sound FILE            FILE is an event log: says how many records of each kind it has, or where it stops being sound
-    events.py --small                 writes a small stream that gives each kind of record, and the repeat mark's cases: crates/events/stdin
+    events.py --small                 writes a small stream that gives each kind of record: crates/events/stdin
     events.py --make SEED COUNT       writes a random stream of COUNT frames that meets every refusal that a stream can
     events.py --against PROGRAM SEED STREAMS COUNT
                                       compares PROGRAM, which is crates/events, with the model on so many random streams, log and ledger: says how
@@ -192,8 +191,7 @@ class Receiver:
         whole, rest = packets(area)
         self.add("receive_packets", len(whole))
         self.add("receive_packet_too_short", bool(rest))
-        repeat = new == before and len(area) >= 1  # 02, W-203
-        return [(6, gateway, slot + bytes([repeat]))] + [(7, gateway, packet) for packet in whole]
+        return [(6, gateway, slot + bytes([new == before]))] + [(7, gateway, packet) for packet in whole]
 
     def step(self, sender, gateway, kind, p):
         """What a frame gives: a refusal's number, or the records of its event."""
@@ -282,20 +280,8 @@ def packet(kind, data):
     return bytes([kind, 0, 2, 0x34, 0x56, 9, len(data)]) + data
 
 
-def repeats(g):
-    """02, W-203: after a request for 1205 a response with that number, with one that has only its low byte, with another; long and short; and an
-    area of no byte, of one, of six, of a whole packet. The last comes again with no request between."""
-    out = []
-    for status, numbers in (("00e0414141414141", ("1205", "1305", "1206")), ("00ff", ("05", "06"))):
-        for n in numbers:
-            for area in (b"", b"\x31", packet(0x31, b"")[:6], packet(0x31, b"\x01")):
-                out.append(encoded(False, g, RECEIVE_REQUEST, b"\x00\x01\x12\x05\x00"))
-                out.append(encoded(True, g, RECEIVE_RESPONSE, bytes.fromhex(status + n + "2e1f") + area))
-    return b"".join(out + out[-1:])
-
-
 def small():
-    """Each kind of record once and more; a refusal between; noise; the repeat mark's cases; a frame that stays open."""
+    """Each kind of record once and more; a refusal between; noise; a frame that stays open."""
     g = 0x1201
     area = packet(0x31, b"") + packet(0x32, bytes(range(0x7E, 0x84))) + b"\x31\x00"
     return b"".join([
@@ -318,7 +304,6 @@ def small():
         encoded(True, g, COMMAND_RESPONSE, b"\x00\x0e\x00\x27\x7f"),
         encoded(False, g, 0x0B00, b""),
         encoded(True, g, 0x1234, b"\x01"),
-        repeats(g),
         b"\x00\xff\xff\x7e\x07\x12",
     ])
 

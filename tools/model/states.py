@@ -1,6 +1,6 @@
 #!/usr/bin/env python3
 """Steps of the transport receiver from states that are made up, which the Rust cannot hold: what the proved side makes of them is held to the
-model of the step, events.py. 01, "The reading of a stream": a made-up state is answered too, with 12 if a length in it is over its limit, and of a
+model of 01's step, events.py. 01, "The reading of a stream": a made-up state is answered too, with 12 if a length in it is over its limit, and of a
 key held twice the first place counts; "Transport": counters wrap at 2^64.
 
     states.py MADE SEED COUNT     MADE is the driver's program of that name: says how often each answer came and that there is no difference, or
@@ -89,17 +89,6 @@ def made_frame(r, gateways):
     return sender, gateway, kind, p
 
 
-def again(r, state, frame):
-    """A receive response that brings the number of its gateway's first place again, where there is one; now and then with no packet area."""
-    sender, gateway, kind, p = frame
-    end = events.needed(events.number(p[:2]))
-    if kind != events.RECEIVE_RESPONSE or gateway + 1 not in state["nkeys"] or len(p) < end:
-        return frame
-    held = state["numbers"][state["nkeys"].index(gateway + 1)].to_bytes(2, "big")
-    held = held[1:] if p[1] & 0x10 else held
-    return sender, gateway, kind, p[: end - 2 - len(held)] + held + p[end - 2 : end] + r.choice([b"", p[end:]])
-
-
 # ---- what the model makes of it
 
 
@@ -186,10 +175,9 @@ def told(case):
     return f"{'From' if sender else 'To'} {gateway:04x} {kind:04x} {p.hex() or '-'}, whose keys stand at {numbers}, {sequences} and {commands}"
 
 
-def marks(case, said, after):
+def marks(case, refused, after):
     """What a case was there for."""
     state, frame = case
-    refused, answer, *news = said
     if frame and any(a < b for a, b in zip(after["counters"], state["counters"])):
         yield MARKS[0]
     for keys, values in (("nkeys", "numbers"), ("skeys", "sequences"), ("ckeys", "clengths")):
@@ -198,14 +186,11 @@ def marks(case, said, after):
             yield MARKS[1]
     if not refused and any(n > HELD for n in state["clengths"]):
         yield MARKS[2]
-    if answer == 6 and state["numbers"] == after["numbers"]:
-        yield MARKS[4 if len(frame[3]) > news[3] else 5]
 
 
 ANSWERS = ["refused by %d" % n for n in [12, 13] + list(range(20, 33))] + ["answered by %d" % n for n in (0, 1, 2, 3, 4, 5, 6, 8, 9)]
 MARKS = [
     "a counter wrapped", "one of two places with one key changed", "a length over the limit at a free place was passed over", "the counters were reset",
-    "a packet number came again before a packet area", "one came again before an empty area",
 ]
 
 
@@ -214,8 +199,7 @@ def main(made, seed, count):
     for _ in range(count):
         gateways = r.sample([0, 1, 0x1201, 0x1202, 0x7FFE, 0x7FFF], r.randrange(1, 4))
         state = made_state(r, gateways)
-        frame = made_frame(r, gateways)
-        cases.append((state, None if r.random() < 0.03 else frame if r.random() < 0.5 else again(r, state, frame)))
+        cases.append((state, None if r.random() < 0.03 else made_frame(r, gateways)))
     text = []
     for state, frame in cases:
         sender, gateway, kind, p = frame or (False, 0, 0, b"")
@@ -233,7 +217,7 @@ def main(made, seed, count):
             seen[MARKS[3]] += not said[0]
         else:
             seen[f"refused by {said[0]}" if said[0] else f"answered by {said[1]}"] += 1
-        for mark in marks(case, said, after):
+        for mark in marks(case, said[0], after):
             seen[mark] += 1
     if found:
         print(min(found)[1])

@@ -1,5 +1,5 @@
 -- What is stored of commands and packet numbers, and asked again. Assumes nothing.
-use Rattle.std.specs.Prelude.{ℕ, ◌+◌, ◌*◌, Bool, ◌&&◌, List, length, ◌==◌, nat_lt}
+use Rattle.std.specs.Prelude.{ℕ, ◌+◌, ◌*◌, Bool, List, ◌==◌}
 
 -- 01, "Transport": what is stored "for the gateway": the number of its key
 abbrev pub gateway_key : ℕ → ℕ
@@ -21,7 +21,6 @@ stride = 245
 abbrev pub pool_size : ℕ
 pool_size = 15680
 
--- 01, "Transport": Added: the slot event carries a repeat mark, set when the response's number equals the one stored before it.
--- 02, W-203, corrects that: From now on the mark is set only if the number equals the stored one and the packet area has at least one byte
+-- Added: the slot event carries a repeat mark, set when the response's number equals the one stored before it
 abbrev pub repeats : ℕ → ℕ → List ℕ → Bool
-repeats number before area = number == before && nat_lt 0 (length area)
+repeats number before area = number == before

@@ -58,7 +58,7 @@ pub enum Answer {
     VersionObserved,
     EnumerationEnded,
     SlotCounterCaptured,
-    // The packet number, the slot counter, the repeat mark; packets stand in the payload from `area` on.
+    // The packet number, the slot counter, whether the number repeats the one stored before; packets stand in the payload from `area` on.
     SlotCounterObserved {
         number: PacketNumber,
         slot: SlotCounter,

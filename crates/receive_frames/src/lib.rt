@@ -63,11 +63,11 @@ pub fn receive_request(
     capture(nkeys, numbers, counters, from, gateway, payload)
 }
 
-// The repeat mark: a response's number is the one stored before it, and the packet area is not empty.
+// Whether a response's number repeats the one stored before it.
 fn repeats(number: PacketNumber, before: PacketNumber, area: &[u8]) -> bool
     ensures { result ≡ repeats number.0 before.0 area.now }
 {
-    (number.0 == before.0) & (0 < area.len())
+    number.0 == before.0
 }
 
 // The packets of an area, counted.

@@ -2,4 +2,3 @@ pub mod Reached
 pub mod Source
 pub mod Once
 pub mod Looks
-pub mod Marks

@@ -1,4 +1,3 @@
 pub mod Reached
 pub mod Source
 pub mod Looks
-pub mod Marks

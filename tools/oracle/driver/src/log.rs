@@ -1,5 +1,5 @@
 //! 01's event log as the Rust's two receivers make it, one on the other: their events, each as a record of 01's house form.
-use crate::oracle::transport::{repeats, Event, Transport};
+use crate::oracle::transport::{Event, Transport};
 use crate::oracle::Plain;
 use taptap::gateway::link::{self, Frame};
 
@@ -44,7 +44,8 @@ impl Log {
         (tables.waiting.len() > 64).then_some(27)
     }
 
-    /// The Rust's events of a frame, with the repeat mark, which is worked out beside it.
+    /// The Rust's events of a frame, with the repeat mark, which is no knowledge of the Rust's: a good response replaces its gateway's
+    /// number, so the mark is set when the numbers are the same before and after.
     fn take(&mut self, frame: &Plain) {
         let asked = frame.kind == RECEIVE_RESPONSE;
         let before = if asked { self.transport.numbers() } else { Vec::new() };
@@ -55,7 +56,7 @@ impl Log {
         }
         self.frames += 1;
         for event in self.transport.events() {
-            let mark = (event.kind == 6).then(|| u8::from(repeats(&before, &self.transport.numbers(), &frame.payload)));
+            let mark = (event.kind == 6).then(|| u8::from(before == self.transport.numbers()));
             self.records.extend(record(&event, mark));
         }
     }

