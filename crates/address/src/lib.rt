@@ -1,4 +1,6 @@
 // Gateway link layer addresses (link/address.rs).
+#![tactic(auto)]
+
 ghost use Rattle.std.specs.Prelude.{◌≡◌, ◌+◌, ◌≤◌, get_or};
 ghost use Rattle.laws.specs.Bytes.{of16};
 ghost use Rattle.address.specs.Address.{gateway_of, number_of, address_of};
@@ -10,11 +12,11 @@ const DIRECTION_BIT: u16 = 0x8000;
 pub const ID_LIMIT: u16 = 0x7fff;
 
 // A 15-bit gateway ID.
-#[derive(Drop)]
+#[derive(Clone, Copy)]
 pub struct GatewayID(pub u16);
 
 // What `GatewayID::new` gives: an ID, or the refusal 13.
-#[derive(Drop)]
+#[derive(Clone, Copy)]
 pub enum Made {
     ID(GatewayID),
     Invalid,
@@ -36,21 +38,21 @@ impl GatewayID {
 }
 
 // A gateway link layer address: `From` a gateway to the controller, or `To` it.
-#[derive(Drop)]
+#[derive(Clone, Copy)]
 pub enum Address {
     From(GatewayID),
     To(GatewayID),
 }
 
 // What `to_u16` gives: the 16 bits, or the refusal 13.
-#[derive(Drop)]
+#[derive(Clone, Copy)]
 pub enum Numbered {
     Number(u16),
     Invalid,
 }
 
 // What `to_be_bytes` gives: the two bytes, the higher first, or the refusal 13.
-#[derive(Drop)]
+#[derive(Clone, Copy)]
 pub enum Spelled {
     Bytes(u8, u8),
     Invalid,

@@ -1,6 +1,8 @@
 // What a step of the transport receiver answers, what that says (`said`), the counters that it raises (`counters`, `entries`) and the keys of its
 // tables (`entries`).
 // What each frame type does is in the crates above: receive_frames, command_frames, plain_frames.
+#![tactic(auto)]
+
 use address::GatewayID;
 use network::PacketType;
 use slot_counter::SlotCounter;
@@ -11,7 +13,7 @@ pub mod entries;
 pub mod said;
 
 // What a step answers: first the refusals of 01's table, then what an accepted frame says.
-#[derive(Drop)]
+#[derive(Clone, Copy)]
 pub enum Answer {
     // 12: a held command's length is over its limit
     OverLimit,

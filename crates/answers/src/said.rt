@@ -9,7 +9,7 @@ use slot_counter::SlotCounter;
 use transport::PacketNumber;
 
 // Refused, accepted with no event, or accepted with an event and its parts.
-#[derive(Drop)]
+#[derive(Clone, Copy)]
 pub enum Said {
     // Refused, by a number of 01's table.
     Refused(u16),

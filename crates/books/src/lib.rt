@@ -1,5 +1,7 @@
 // The books of a stream: what the receiver's functions come to in the grammar's terms. A host that reads a stream in blocks starts with
 // `Receiver::new()`, takes each block in by `absorb` (or, frame by frame, by `give`), and asks `told` for the ledger.
+#![tactic(auto)]
+
 ghost use Rattle.std.specs.Prelude.{◌≡◌};
 ghost use Rattle.crc.specs.Crc.{crc_of};
 ghost use Rattle.reading.specs.Grammar.{present};
@@ -10,7 +12,7 @@ use link_feed::Fed;
 use link_receive::{Receiver, Stepped};
 
 // The nine numbers that the ledger program prints; `unfinished` is 1 while a frame is open.
-#[derive(Drop)]
+#[derive(Clone, Copy)]
 pub struct Ledger {
     pub openings: u64,
     pub frames: u64,
@@ -24,7 +26,7 @@ pub struct Ledger {
 }
 
 // What `told` gives: the ledger so far, or the refusal 12.
-#[derive(Drop)]
+#[derive(Clone, Copy)]
 pub enum Telling {
     So(Ledger),
     Refused,

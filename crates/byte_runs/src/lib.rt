@@ -1,5 +1,7 @@
 // Runs of bytes, taken by words of eight: the bytes that end a run are marked in the word, and those before the first mark are counted at once.
 // The receiver skips and copies such runs, and the encoder copies the bytes that stand for themselves.
+#![tactic(auto)]
+
 ghost use Rattle.std.specs.Prelude.{◌≡◌, not, [], ◌∷◌, ◌+◌, ◌-◌, ◌≤◌, ◌<◌, length, take, drop};
 ghost use Rattle.std.proofs.Math.Seq.{paste};
 ghost use Rattle.byte_runs.specs.Runs.{idle, fenced, is_of, lead};
@@ -7,7 +9,7 @@ ghost use Rattle.byte_runs.specs.Marks.{Marks, between_of, Below, First, Blended
 ghost use Rattle.byte_runs.specs.Noises.{noises_of, noises_at, tick, Behind, Begun, NoisyAt, NoisyBehind};
 
 // A sort of bytes: any but 7e; 00 and ff; those that stand for themselves on the wire; any but 07 and 08.
-#[derive(Drop)]
+#[derive(Clone, Copy)]
 pub enum Sort {
     Raw,
     Idle,
@@ -207,7 +209,7 @@ pub fn copy_run(sort: Sort, d: &mut [u8], l: usize, s: &[u8], i: usize) -> usize
 }
 
 // What bytes outside a frame come to: whether the last of them was noise, how many noises began among them, and the place behind them.
-#[derive(Drop)]
+#[derive(Clone, Copy)]
 pub struct Heard {
     pub noisy: bool,
     pub count: usize,

@@ -1,4 +1,6 @@
 // Command requests and responses: the tables of last sequences and of waiting commands.
+#![tactic(auto)]
+
 ghost use Rattle.std.specs.Prelude.{◌≡◌, ◌*◌, ◌≤◌, ◌<◌, length, drop};
 ghost use Rattle.std.proofs.Math.Seq.{paste};
 ghost use Rattle.link.specs.Wire.{payload_limit};

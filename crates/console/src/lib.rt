@@ -1,5 +1,7 @@
 // What all programs share: their words, an input that is read in blocks, an output that is written in whole lines and records, and failing.
 // A program lends its buffers, and keeps the loop over its blocks itself.
+#![tactic(auto)]
+
 ghost use Rattle.std.specs.Prelude.{◌≡◌, cond, ◌≤◌};
 ghost use Rattle.io.specs.Counts.{IsPrefixLen};
 ghost use Rattle.console.specs.Room.{Roomy};

@@ -7,6 +7,8 @@
 //   proofs of by_table.rt and of `crc` stand. by_words.rt falls, and goes: with its proofs, and the laws and definitions that it alone cites.
 // - another algorithm: `crc_of` in specs/Crc.antt, and the code of `crc` with its proof.
 // Above this crate contracts name `crc_of`, and no code or proof changes. Rows, captures and printed lines do: docs/DIFFERENCES.md lists them.
+#![tactic(auto)]
+
 ghost use Rattle.std.specs.Prelude.{◌≡◌};
 ghost use Rattle.crc.specs.Crc.{crc_of};
 

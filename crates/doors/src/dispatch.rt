@@ -8,7 +8,7 @@ use link::Type;
 use transport_receiver::POOL;
 
 // How an answer crosses: as one number, and what it says besides.
-#[derive(Drop)]
+#[derive(Clone, Copy)]
 struct Crossed {
     number: u64,
     news: [u64; 4],

@@ -1,6 +1,8 @@
 // The doors of the proved functions to programs in other languages: numbers and byte slices alone, by the C calling convention.
 // A door has no `requires`, so a caller owes nothing but what the parameters' types say.
 // An answer is one number: a value, or 2^32 times the number of 01's table by which it is refused.
+#![tactic(auto)]
+
 ghost use Rattle.std.specs.Prelude.{◌≡◌, ◌↔◌, true, length};
 ghost use Rattle.crc.specs.Crc.{crc_of};
 ghost use Rattle.escaping.specs.Handed.{unescape_handed, length_handed, escape_handed, escape_bytes};

@@ -1,4 +1,6 @@
 // Gateway link layer escaping (link/escaping.rs).
+#![tactic(auto)]
+
 ghost use Rattle.std.specs.Prelude.{◌≡◌, ◌+◌, ◌≤◌, length, leb};
 ghost use Rattle.std.proofs.Math.Seq.{paste};
 ghost use Rattle.laws.specs.Bytes.{laid_over};
@@ -11,14 +13,14 @@ use byte_runs::Sort;
 pub const INPUT_LIMIT: usize = 65536;
 
 // What `escaped_length` gives: the exact length, or the refusal 10.
-#[derive(Drop)]
+#[derive(Clone, Copy)]
 pub enum Measured {
     Length(usize),
     TooLong,
 }
 
 // What `escape` gives: how many bytes it wrote, or the refusals 10 and 11.
-#[derive(Drop)]
+#[derive(Clone, Copy)]
 pub enum Escaped {
     Written(usize),
     TooLong,
@@ -26,7 +28,7 @@ pub enum Escaped {
 }
 
 // What `unescaped_byte` gives: the byte that 7e and a code stand for, or the refusal 14.
-#[derive(Drop)]
+#[derive(Clone, Copy)]
 pub enum Unescaped {
     Byte(u8),
     Invalid,

@@ -1,4 +1,6 @@
 // The records of an answer of the transport step, all or none of them, in order.
+#![tactic(auto)]
+
 ghost use Rattle.std.specs.Prelude.{◌≡◌, ◌≤◌, length, take, drop};
 ghost use Rattle.laws.specs.Bytes.{laid_over};
 ghost use Rattle.address.specs.Address.{id_limit, gateway_of};
@@ -20,7 +22,7 @@ use transport_receiver::{Answer, POOL};
 const SLOT_SIZE: usize = 9;
 
 // How much room is left, or that there is too little.
-#[derive(Drop)]
+#[derive(Clone, Copy)]
 enum Room {
     Left(usize),
     Short,

@@ -1,4 +1,6 @@
 // Event records, a house form: the record of each kind of event. Whether one is sound is told by crates/sound_record.
+#![tactic(auto)]
+
 ghost use Rattle.std.specs.Prelude.{◌≡◌, ◌+◌, ◌≤◌, length};
 ghost use Rattle.laws.specs.Bytes.{laid_over};
 ghost use Rattle.sound_record.specs.Record.{written};
@@ -21,7 +23,7 @@ const REQUEST_AT: usize = 8;
 const COMMAND_SIZE: usize = 9;
 
 // What an encoder gives: how many bytes it wrote, or the refusal 13, 41 or 40.
-#[derive(Drop)]
+#[derive(Clone, Copy)]
 pub enum Recorded {
     Written(usize),
     InvalidGateway,

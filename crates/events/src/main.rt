@@ -1,5 +1,7 @@
 // Reads a capture to its end, and writes its event log: the records of all events, in order, those of what a read brought before the next
 // read. With `--ledger` it prints the link ledger's nine lines instead, and then the 33 transport counters.
+#![tactic(auto)]
+
 ghost use Rattle.std.specs.Prelude.{◌≤◌};
 
 use blocks::take_block;

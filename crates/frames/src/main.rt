@@ -1,5 +1,7 @@
 // Reads an input to its end and prints a line for each sound frame, in order: From or To, gateway in four hex digits, type in four hex
 // digits, payload in hex, or - if it has none. The lines of what a read brought are written before the next read.
+#![tactic(auto)]
+
 use address::Address;
 use console::text::{put, put_all, put_hex};
 use console::{Out, written};

@@ -1,4 +1,6 @@
 // The gateway transport layer's payloads of fixed and of least length (transport.rs).
+#![tactic(auto)]
+
 ghost use Rattle.std.specs.Prelude.{◌≡◌};
 ghost use Rattle.layouts.specs.Layouts.{exactly, at_least, command_request_length, command_request_in, command_response_length, command_response_in, receive_request_length, receive_request_in, identify_response_length, identify_response_in, enumeration_start_request_length, enumeration_start_request_in, named_of};
 
@@ -9,7 +11,7 @@ use transport::PacketNumber;
 use words::{be16, byte_at};
 
 // Whether a payload has the length of its layout. A wrong one is refused by 21.
-#[derive(Drop)]
+#[derive(Clone, Copy)]
 pub enum Length {
     Right,
     Wrong,
@@ -38,7 +40,7 @@ fn least_length(payload: &[u8], n: usize) -> Length
 }
 
 // A command request frame payload.
-#[derive(Drop)]
+#[derive(Clone, Copy)]
 pub struct CommandRequest {
     pub unknown: [u8; 3],
     pub packet_type: PacketType,
@@ -46,7 +48,7 @@ pub struct CommandRequest {
 }
 
 // What `CommandRequest::read` gives. Where the length is wrong, a byte that is not there is 0.
-#[derive(Drop)]
+#[derive(Clone, Copy)]
 pub struct ReadCommandRequest {
     pub length: Length,
     pub request: CommandRequest,
@@ -75,7 +77,7 @@ impl CommandRequest {
 }
 
 // A command response frame payload.
-#[derive(Drop)]
+#[derive(Clone, Copy)]
 pub struct CommandResponse {
     pub unknown_1: u8,
     pub tx_buffers_free: u8,
@@ -85,7 +87,7 @@ pub struct CommandResponse {
 }
 
 // What `CommandResponse::read` gives. Where the length is wrong, a byte that is not there is 0.
-#[derive(Drop)]
+#[derive(Clone, Copy)]
 pub struct ReadCommandResponse {
     pub length: Length,
     pub response: CommandResponse,
@@ -114,7 +116,7 @@ impl CommandResponse {
 }
 
 // A receive request frame payload.
-#[derive(Drop)]
+#[derive(Clone, Copy)]
 pub struct ReceiveRequest {
     pub unknown_1: [u8; 2],
     pub packet_number: PacketNumber,
@@ -122,7 +124,7 @@ pub struct ReceiveRequest {
 }
 
 // What `ReceiveRequest::read` gives. Where the length is wrong, a byte that is not there is 0.
-#[derive(Drop)]
+#[derive(Clone, Copy)]
 pub struct ReadReceiveRequest {
     pub length: Length,
     pub request: ReceiveRequest,
@@ -147,21 +149,21 @@ impl ReceiveRequest {
 }
 
 // An identify response frame payload, and an enumeration response's.
-#[derive(Drop)]
+#[derive(Clone, Copy)]
 pub struct IdentifyResponse {
     pub pv_long_address: LongAddress,
     pub gateway_address: [u8; 2],
 }
 
 // What `IdentifyResponse::read` gives. Where the length is wrong, a byte that is not there is 0.
-#[derive(Drop)]
+#[derive(Clone, Copy)]
 pub struct ReadIdentifyResponse {
     pub length: Length,
     pub response: IdentifyResponse,
 }
 
 // The gateway that an address in a payload names, or none: its direction is From.
-#[derive(Drop)]
+#[derive(Clone, Copy)]
 pub enum Named {
     Gateway(GatewayID),
     FromAddress,
@@ -211,14 +213,14 @@ impl IdentifyResponse {
 }
 
 // An enumeration start request frame payload.
-#[derive(Drop)]
+#[derive(Clone, Copy)]
 pub struct EnumerationStartRequest {
     pub unknown: [u8; 4],
     pub enumeration_address: [u8; 2],
 }
 
 // What `EnumerationStartRequest::read` gives. Where the length is wrong, a byte that is not there is 0.
-#[derive(Drop)]
+#[derive(Clone, Copy)]
 pub struct ReadEnumerationStartRequest {
     pub length: Length,
     pub request: EnumerationStartRequest,

@@ -1,5 +1,7 @@
 // Reads an input to its end, and prints its ledger: 01's nine lines. Of an input that fails on the way it prints the ledger of what came,
 // and says so.
+#![tactic(auto)]
+
 use books::Telling;
 use link_receive::Receiver;
 

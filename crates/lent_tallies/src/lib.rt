@@ -1,4 +1,6 @@
 // The receiver with tallies that a host lends: thin functions above the by-value ones of link_receive and link_feed.
+#![tactic(auto)]
+
 ghost use Rattle.std.specs.Prelude.{◌≡◌};
 ghost use Rattle.crc.specs.Crc.{crc_of};
 ghost use Rattle.link_receive.specs.Step.{step_of};

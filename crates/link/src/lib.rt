@@ -1,4 +1,6 @@
 // The gateway link layer's frames (link.rs).
+#![tactic(auto)]
+
 ghost use Rattle.std.specs.Prelude.{◌≡◌, ◌++◌, ◌+◌, ◌≤◌, length};
 ghost use Rattle.laws.specs.Bytes.{laid_over};
 ghost use Rattle.crc.specs.Crc.{crc_of};
@@ -10,7 +12,7 @@ use escaping::Escaped;
 use words::{copy_in, high, low};
 
 // A link layer frame type.
-#[derive(Drop)]
+#[derive(Clone, Copy)]
 pub struct Type(pub u16);
 
 impl Type {
@@ -55,7 +57,7 @@ impl Type {
 pub const PAYLOAD_LIMIT: usize = 250;
 
 // What `encode` gives: how many bytes it wrote, or the refusals 13, 10 and 11.
-#[derive(Drop)]
+#[derive(Clone, Copy)]
 pub enum Encoded {
     Written(usize),
     InvalidID,

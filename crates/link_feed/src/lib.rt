@@ -1,4 +1,6 @@
 // A slice of bytes fed to the link receiver: up to the first frame handed out, or through all of them. The steps are those of crates/link_receive, many at a time.
+#![tactic(auto)]
+
 ghost use Rattle.std.specs.Prelude.{◌≡◌};
 ghost use Rattle.crc.specs.Crc.{crc_of};
 ghost use Rattle.link_feed.specs.Feed.{feed_of};
@@ -16,7 +18,7 @@ mod outside;
 mod tails;
 
 // A receiver handed back, what it hands out, and the number of bytes taken.
-#[derive(Drop)]
+#[derive(Clone, Copy)]
 pub struct Fed {
     pub next: Receiver,
     pub answer: Answer,
@@ -24,21 +26,21 @@ pub struct Fed {
 }
 
 // What a feeding over a lent receiver hands out, and how many bytes were taken.
-#[derive(Drop)]
+#[derive(Clone, Copy)]
 pub struct FedIn {
     pub answer: Answer,
     pub taken: usize,
 }
 
 // What a feeding from a place of a slice on hands out, and the place that it reaches.
-#[derive(Drop)]
+#[derive(Clone, Copy)]
 pub struct Reached {
     pub answer: Answer,
     pub at: usize,
 }
 
 // The units of an open frame: how many are held, the place behind them, and, where the pair that stands there is no unit, its second byte; else 0.
-#[derive(Drop)]
+#[derive(Clone, Copy)]
 struct Units {
     len: usize,
     at: usize,
@@ -46,7 +48,7 @@ struct Units {
 }
 
 // Where the bytes outside a frame lead: to the open frame behind its opener, or to the slice's end.
-#[derive(Drop)]
+#[derive(Clone, Copy)]
 struct Course {
     state: State,
     len: usize,
@@ -54,7 +56,7 @@ struct Course {
 }
 
 // A receiver after one byte, its body and tallies beside it, and what it hands out.
-#[derive(Drop)]
+#[derive(Clone, Copy)]
 struct Stood {
     state: State,
     len: usize,
@@ -62,7 +64,7 @@ struct Stood {
 }
 
 // What a feeding stopped with: the parts of the receiver beside its body and tallies, the answer, and how many bytes of the slice were taken.
-#[derive(Drop)]
+#[derive(Clone, Copy)]
 struct Advanced {
     state: State,
     len: usize,

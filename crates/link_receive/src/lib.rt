@@ -1,5 +1,7 @@
 // The gateway link layer's receiver (link/receive.rs): bytes to frames, one byte at a time. The receiver is a state handed in and handed back by each step.
 // Slices are fed by crates/link_feed.
+#![tactic(auto)]
+
 ghost use Rattle.std.specs.Prelude.{◌≡◌};
 ghost use Rattle.crc.specs.Crc.{crc_of};
 ghost use Rattle.link_receive.specs.Tally.{counter_of, raise};
@@ -16,7 +18,7 @@ pub mod moves;
 pub mod numbered;
 
 // Where the receiver stands in the stream.
-#[derive(Drop)]
+#[derive(Clone, Copy)]
 pub enum State {
     Idle,
     Noise,
@@ -43,7 +45,7 @@ pub fn open_frames(state: State) -> u64
 }
 
 // One of the eight tallies.
-#[derive(Drop)]
+#[derive(Clone, Copy)]
 pub enum Tally {
     Openings,
     Frames,
@@ -56,7 +58,7 @@ pub enum Tally {
 }
 
 // The eight tallies. Each wraps at 2^64.
-#[derive(Drop)]
+#[derive(Clone, Copy)]
 pub struct Tallies {
     pub openings: u64,
     pub frames: u64,
@@ -124,7 +126,7 @@ impl Tallies {
 
 // What a byte asks for: another state; a data unit for the body; a tally raised, the body emptied and a state;
 // the frame broken; the frame closed.
-#[derive(Drop)]
+#[derive(Clone, Copy)]
 pub enum Move {
     To(State),
     Push(u8),
@@ -134,7 +136,7 @@ pub enum Move {
 }
 
 // What a closed body is: a sound frame, or one that is counted and dropped.
-#[derive(Drop)]
+#[derive(Clone, Copy)]
 pub enum Parsed {
     Sound { address: Address, frame_type: Type },
     Dropped(Tally),
@@ -142,7 +144,7 @@ pub enum Parsed {
 
 // What a step or a feeding hands out. A frame's payload is the first `len` bytes after the fourth of the body handed back.
 // Refused is 12.
-#[derive(Drop)]
+#[derive(Clone, Copy)]
 pub enum Answer {
     Nothing,
     Frame {
@@ -155,7 +157,7 @@ pub enum Answer {
 
 // The receiver: its state, the units of the open frame (the first `len` bytes of `body`), and the tallies. A field more goes behind them: the
 // walks by hand of crates/lent_tallies count the fields up to `tallies`.
-#[derive(Drop)]
+#[derive(Clone, Copy)]
 pub struct Receiver {
     pub state: State,
     pub body: [u8; Receiver::ROOM],
@@ -179,7 +181,7 @@ pub fn payload(body: &[u8], len: usize) -> &[u8]
 }
 
 // A receiver handed back, and what it hands out.
-#[derive(Drop)]
+#[derive(Clone, Copy)]
 pub struct Stepped {
     pub next: Receiver,
     pub answer: Answer,

@@ -57,7 +57,7 @@ pub fn receiver_at(numbers: [u64; Receiver::NUMBERS], body: [u8; Receiver::ROOM]
 }
 
 // Ten numbers of a receiver, or the refusal.
-#[derive(Drop)]
+#[derive(Clone, Copy)]
 pub struct Numbers {
     pub numbers: [u64; Receiver::NUMBERS],
     pub answer: Answer,

@@ -1,4 +1,6 @@
 // The PV network layer (pv/network.rs): received packets, and how a packet area is split into them.
+#![tactic(auto)]
+
 ghost use Rattle.std.specs.Prelude.{◌≡◌, ◌+◌, ◌%◌};
 ghost use Rattle.network.specs.Split.{found_at, tally_of};
 ghost use Rattle.network.specs.Nodes.{node_of, address_of, successor_of, header_of};
@@ -10,19 +12,19 @@ mod received_packets;
 pub use received_packets::ReceivedPackets;
 
 // The type of a PV application packet.
-#[derive(Drop)]
+#[derive(Clone, Copy)]
 pub struct PacketType(pub u8);
 
 // A 16-bit PV link layer (802.15.4) short address.
-#[derive(Drop)]
+#[derive(Clone, Copy)]
 pub struct ShortAddress(pub u16);
 
 // A 64-bit PV link layer (802.15.4) long address.
-#[derive(Drop)]
+#[derive(Clone, Copy)]
 pub struct LongAddress(pub [u8; 8]);
 
 // A PV link layer data sequence number.
-#[derive(Drop)]
+#[derive(Clone, Copy)]
 pub struct DSN(pub u8);
 
 impl DSN {
@@ -36,18 +38,18 @@ impl DSN {
 }
 
 // A 16-bit PV network layer node ID, which is not 0.
-#[derive(Drop)]
+#[derive(Clone, Copy)]
 pub struct NodeID(u16);
 
 // A node's ID, or none: 0.
-#[derive(Drop)]
+#[derive(Clone, Copy)]
 pub enum Node {
     ID(NodeID),
     Zero,
 }
 
 // The ID after another, or none: the other is the last.
-#[derive(Drop)]
+#[derive(Clone, Copy)]
 pub enum Successor {
     Next(NodeID),
     Last,
@@ -87,7 +89,7 @@ impl NodeID {
 }
 
 // A 16-bit PV network layer node address, which could be either a `NodeID` or the broadcast address.
-#[derive(Drop)]
+#[derive(Clone, Copy)]
 pub struct NodeAddress(pub u16);
 
 impl NodeAddress {
@@ -121,7 +123,7 @@ impl NodeAddress {
 }
 
 // The header of a received packet.
-#[derive(Drop)]
+#[derive(Clone, Copy)]
 pub struct ReceivedPacketHeader {
     pub packet_type: PacketType,
     pub node_address: NodeAddress,
@@ -131,7 +133,7 @@ pub struct ReceivedPacketHeader {
 }
 
 // What `ReceivedPacketHeader::read` gives: a header, or too few bytes for one.
-#[derive(Drop)]
+#[derive(Clone, Copy)]
 pub enum HeaderRead {
     Header(ReceivedPacketHeader),
     HeaderTooShort,
@@ -158,7 +160,7 @@ impl ReceivedPacketHeader {
 }
 
 // What stands at a place of a packet area.
-#[derive(Drop)]
+#[derive(Clone, Copy)]
 pub enum Found {
     // A whole packet: its header up to `data_at`, its data from there up to `end`.
     Packet { data_at: usize, end: usize },
@@ -169,7 +171,7 @@ pub enum Found {
 }
 
 // How many whole packets an area has, and whether it ends too short (1) or not (0).
-#[derive(Drop)]
+#[derive(Clone, Copy)]
 pub struct Tally {
     pub packets: u64,
     pub short: u64,

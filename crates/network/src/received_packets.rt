@@ -5,7 +5,7 @@ ghost use Rattle.network.specs.Walker.{sight_at, Next};
 use crate::Found;
 
 // What stands at a place, and the place where the walker goes on.
-#[derive(Drop)]
+#[derive(Clone, Copy)]
 struct Sight {
     found: Found,
     at: usize,

@@ -1,4 +1,6 @@
 // The frame types that touch no table.
+#![tactic(auto)]
+
 ghost use Rattle.std.specs.Prelude.{◌≡◌, ◌<◌};
 ghost use Rattle.answers.specs.Types.{counter_of};
 ghost use Rattle.plain_frames.specs.Plain.{counted, enumeration_start_in, identity_in, version_in, enumeration_end_in, count_in, by_type_in, untabled_in};

@@ -1,4 +1,6 @@
 // Receive requests and receive responses: the table of packet numbers.
+#![tactic(auto)]
+
 ghost use Rattle.std.specs.Prelude.{◌≡◌, ◌≤◌, ◌<◌, length, get_or};
 ghost use Rattle.transport.specs.Response.{receive_read_of};
 ghost use Rattle.answers.specs.Counters.{count_packets};

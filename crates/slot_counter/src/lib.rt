@@ -1,14 +1,16 @@
 // Slot counters (pv/link/slot_counter.rs): an epoch, of about a minute, and a slot number within it.
+#![tactic(auto)]
+
 ghost use Rattle.std.specs.Prelude.{◌≡◌, ◌≤◌};
 ghost use Rattle.laws.specs.Bytes.{of16};
 ghost use Rattle.slot_counter.specs.Slots.{new_of, epoch_of, slot_number_of, number_in, index_of, epoch_at, added_of, abs_of, slots_since_of};
 
 // A slot counter: the epoch in the two highest bits, the slot number in the other fourteen.
-#[derive(Drop)]
+#[derive(Clone, Copy)]
 pub struct SlotCounter(pub u16);
 
 // An epoch of slot numbers, corresponding to approximately one minute of real time.
-#[derive(Drop)]
+#[derive(Clone, Copy)]
 pub enum SlotEpoch {
     Epoch0,
     Epoch4,
@@ -17,22 +19,22 @@ pub enum SlotEpoch {
 }
 
 // A slot number: 0 to 11,999.
-#[derive(Drop)]
+#[derive(Clone, Copy)]
 pub struct SlotNumber(u16);
 
 // The value of a slot number that is over 11,999.
-#[derive(Drop)]
+#[derive(Clone, Copy)]
 pub struct InvalidSlotNumber(pub u16);
 
 // A slot number, or the value that is none.
-#[derive(Drop)]
+#[derive(Clone, Copy)]
 pub enum Numbered {
     Number(SlotNumber),
     Invalid(InvalidSlotNumber),
 }
 
 // How many slots lie between two counters, or the first value that is no slot number.
-#[derive(Drop)]
+#[derive(Clone, Copy)]
 pub enum Since {
     Slots(u16),
     Bad(InvalidSlotNumber),

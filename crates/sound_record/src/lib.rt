@@ -1,4 +1,6 @@
 // Event records, a house form: whether one is sound, and whether one stands at a place of a log.
+#![tactic(auto)]
+
 ghost use Rattle.std.specs.Prelude.{◌≡◌};
 ghost use Rattle.laws.specs.Bytes.{of16};
 ghost use Rattle.sound_record.specs.Record.{written, body_start, sound_body, sound_at, stands_at};
@@ -17,7 +19,7 @@ const GATEWAY_AT: usize = 4;
 pub const BODY_AT: usize = 6;
 
 // What stands at a place of a log.
-#[derive(Drop)]
+#[derive(Clone, Copy)]
 pub enum Stands {
     // A sound record, which ends before `end`.
     Record { end: usize },

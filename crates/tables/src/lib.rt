@@ -1,5 +1,7 @@
 // Tables of a fixed number of places, as the transport receiver holds them: an array of keys, and beside it arrays of what the places hold.
 // A key of 0 is a free place; a place that holds k has the key k + 1. What the arrays mean is `places_of` of specs/Places.antt.
+#![tactic(auto)]
+
 ghost use Rattle.std.specs.Prelude.{◌≡◌, get_or};
 ghost use Rattle.tables.specs.Keys.{first_of, seat_of, any_over, over_of};
 

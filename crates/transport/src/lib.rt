@@ -1,4 +1,6 @@
 // The gateway transport layer's packet numbers and receive responses (transport.rs). The other payloads are those of crates/layouts.
+#![tactic(auto)]
+
 ghost use Rattle.std.specs.Prelude.{◌≡◌};
 ghost use Rattle.transport.specs.Status.{accepted_of, needed_of};
 ghost use Rattle.transport.specs.Number.{interpret_of};
@@ -10,11 +12,11 @@ use words::be16;
 mod receive_response;
 
 // The number of a packet, as a gateway counts them.
-#[derive(Drop)]
+#[derive(Clone, Copy)]
 pub struct PacketNumber(pub u16);
 
 // The number that ties a command's response to its request.
-#[derive(Drop)]
+#[derive(Clone, Copy)]
 pub struct CommandSequenceNumber(pub u8);
 
 // Whether a receive response may start with this status word: all of 0x00e0 is set.
@@ -46,21 +48,21 @@ pub fn interpret_packet_number_lo(lo: u8, old: PacketNumber) -> PacketNumber
 }
 
 // A byte that may be missing.
-#[derive(Drop)]
+#[derive(Clone, Copy)]
 pub enum OptionalByte {
     One(u8),
     NoByte,
 }
 
 // Two bytes that may be missing.
-#[derive(Drop)]
+#[derive(Clone, Copy)]
 pub enum OptionalPair {
     Two(u8, u8),
     NoPair,
 }
 
 // A receive response frame payload, decoded into its most general form.
-#[derive(Drop)]
+#[derive(Clone, Copy)]
 pub struct ReceiveResponse {
     pub rx_buffers_used: OptionalByte,
     pub tx_buffers_free: OptionalByte,
@@ -72,7 +74,7 @@ pub struct ReceiveResponse {
 
 // What `ReceiveResponse::read` gives: the fields and where the packet area starts in the payload; or the refusal 23 with the length that is
 // needed; or the refusal 22 with the status word.
-#[derive(Drop)]
+#[derive(Clone, Copy)]
 pub enum ReceiveRead {
     Response(ReceiveResponse, usize),
     TooShort(usize),

@@ -2,6 +2,8 @@
 // The state is three tables of fixed size and 33 counters, held as arrays of numbers; specs/State.antt says what the arrays mean.
 // What each frame type does to them is in crates/receive_frames, crates/command_frames and crates/plain_frames.
 // `step_in` is lent the arrays; `Receiver::step` is the same by value.
+#![tactic(auto)]
+
 ghost use Rattle.std.specs.Prelude.{◌≡◌};
 ghost use Rattle.address.specs.Address.{is_from, gateway_of};
 ghost use Rattle.tables.specs.Keys.{over_of};

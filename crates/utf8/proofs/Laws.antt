@@ -78,7 +78,7 @@ sound : (k lo hi : ℕ) (s : List ℕ) → passes (want k lo hi) s ≡ true → 
 unfolding passes step_of
 sound zero lo hi [] h = none
 sound (suc k) lo hi [] h = omega (arith, eqb-true (suc k) 0 h)
-sound zero lo hi (b ∷ s) h = build b s (sound _ _ _ s h)
+sound zero lo hi (b ∷ s) h = build b s (sound (lead_of b).left (lead_of b).lo (lead_of b).hi s h)
 sound (suc k) lo hi (b ∷ s) h =
     let P : Want → Type 0 = λ w. passes w s ≡ true → Within lo hi b × Rest k 0x80 0xbf s in
     cut P b lo (λ l h. absurd (dead s h)) (λ l. cut P hi b (λ g h. absurd (dead s h)) (λ g h. ((l, g), sound k 0x80 0xbf s h)))

@@ -1,10 +1,12 @@
 // Whether bytes are UTF-8 (RFC 3629), in one pass: the test that stands for `str::from_utf8`.
+#![tactic(auto)]
+
 ghost use Rattle.std.specs.Prelude.{◌≡◌, ◌↔◌, true};
 ghost use Rattle.utf8.specs.Utf8.{Utf8, Text};
 ghost use Rattle.utf8.specs.Scan.{want, lead_of, step_of};
 
 // How many bytes a character still wants, and where the next of them must lie.
-#[derive(Drop)]
+#[derive(Clone, Copy)]
 struct Want {
     left: u8,
     lo: u8,

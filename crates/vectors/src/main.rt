@@ -1,12 +1,14 @@
 // Replays the rows of data/ on the leaves and on `encode`, and prints for each file how many of its rows agree.
 // tools/vectors/make.py writes the files; the head of each says what a row holds.
+#![tactic(auto)]
+
 mod rows;
 mod runs;
 
 use libc::STDOUT_FILENO;
 
 // How many rows were seen, and how many agreed.
-#[derive(Drop)]
+#[derive(Clone, Copy)]
 pub struct Count {
     pub all: u64,
     pub agreed: u64,

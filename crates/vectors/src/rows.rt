@@ -2,14 +2,14 @@
 ghost use Rattle.std.specs.Prelude.{◌<◌, ◌≤◌, length};
 
 // A number read from a text, and the place behind it.
-#[derive(Drop)]
+#[derive(Clone, Copy)]
 pub struct Counted {
     pub value: usize,
     pub next: usize,
 }
 
 // How many bytes a field has, and the place where it ends.
-#[derive(Drop)]
+#[derive(Clone, Copy)]
 pub struct Filled {
     pub len: usize,
     pub next: usize,

@@ -22,7 +22,7 @@ pub const NUMBER: u8 = 6;
 pub const ENCODE: u8 = 7;
 
 // What a line of a file is.
-#[derive(Drop)]
+#[derive(Clone, Copy)]
 pub enum Line {
     Agrees,
     Differs,
@@ -91,7 +91,7 @@ fn run(letter: u8, input: &[u8], got: &mut [u8]) -> usize
 }
 
 // An answer as a row has it: a number of 01, or 0, and a value.
-#[derive(Drop)]
+#[derive(Clone, Copy)]
 pub struct Answer {
     pub number: u8,
     pub value: usize,

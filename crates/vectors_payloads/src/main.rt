@@ -1,5 +1,7 @@
 // Runs the vectors of data/ through the functions on payloads, and prints how many rows each file has and how many came out wrong.
 // A row is a line `LETTER ANSWER INPUT RULE`; a line that starts with # is none. tools/vectors/payloads.py makes the files and says what the letters ask.
+#![tactic(auto)]
+
 ghost use Rattle.std.specs.Prelude.{◌<◌, ◌≤◌, length};
 ghost use Rattle.io.specs.Counts.{IsPrefixLen};
 
@@ -186,7 +188,7 @@ fn judged(line: &[u8]) -> u8 {
 }
 
 // How many rows were read, and how many of them came out wrong.
-#[derive(Drop)]
+#[derive(Clone, Copy)]
 struct Ran {
     rows: u64,
     wrong: u64,

@@ -1,5 +1,7 @@
 // Runs the rows of data/ through the event records' functions, and prints for each file how many of its rows agree. A row that does not is
 // named by its rule. tools/vectors/records.py makes the files and says what a row holds.
+#![tactic(auto)]
+
 ghost use Rattle.std.specs.Prelude.{◌+◌, ◌<◌, ◌≤◌, length};
 
 use address::GatewayID;
@@ -148,7 +150,7 @@ fn agrees(row: &[u8]) -> bool {
 }
 
 // How many rows there are, and how many agree.
-#[derive(Drop)]
+#[derive(Clone, Copy)]
 struct Count {
     all: u64,
     agreed: u64,

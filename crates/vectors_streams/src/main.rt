@@ -1,6 +1,8 @@
 // Replays the streams of data/streams, a line in hexadecimal each, on a fresh receiver, byte by byte. Prints for each sound frame its
 // address, type, payload length and the check of its payload, and then the ledger's nine numbers. A line that starts with # is passed on.
 // What the Rust makes of the same streams is the file `stdout`; tools/oracle writes both.
+#![tactic(auto)]
+
 ghost use Rattle.std.specs.Prelude.{◌≤◌};
 
 use address::Address;

@@ -1,5 +1,7 @@
 // Four or eight bytes at once as one number, the first byte lowest. A caller lends just those bytes, so that their length need not be asked at run time.
 // And single bytes, two as a number, the first byte highest, a number's two, and any number of them copied into a slice.
+#![tactic(auto)]
+
 ghost use Rattle.std.specs.Prelude.{◌≡◌, ◌/◌, ◌%◌, ◌^◌, ◌<◌, get_or};
 ghost use Rattle.laws.specs.Bytes.{of16};
 ghost use Rattle.words.specs.Words.{number_of, put_of, copied_in};
@@ -92,5 +94,5 @@ pub fn copy_in(d: &mut [u8], at: usize, s: &[u8])
     if d.len() - at < s.len() {
         return;
     }
-    bytes::copy(s, &mut d[at..]);
+    d[at..at + s.len()].copy_from_slice(s);
 }

@@ -1,0 +1,21 @@
+-- `crc::by_words::tail` takes the last bytes in: the word's low bits go through and its high ones move down, and the bytes stand above them. Assumes nothing.
+use Prim.Native.Nat.{◌-◌}
+use mathlib.Core.Path.{sym}
+use native.Mathlib.Omega.{arith}
+use lib.ListN.{length}
+use borrow.Author.Rules.{rules}
+use Rattle.crc.specs.Crc.{crc_bits}
+use Rattle.crc.proofs.Laws.{crc_from-end}
+use Rattle.crc.proofs.Words.{crc_from-tail}
+use Rattle.crc.proofs.by_words.tail.Goals as goal
+
+pub returns-then-i-n : goal.returns-then-i-n
+returns-then-i-n c = let a = c.args in
+    sym (crc_from-end a.b.now a.i (crc_bits 64 a.x) (omega arith))
+
+pub returns : goal.returns
+returns c = let a = c.args in
+    let b = a.b.now in
+    let n = length b in
+    let r = n - a.i in
+    crc_from-tail b (λ k. (c.shared_slice_known-1.given k).fits) r (8 - r) a.i (n - 8) a.x c.fold.result c.word_at.result (omega arith) (omega arith) (omega arith) c.word_at.ensures c.fold.ensures
