@@ -17,10 +17,10 @@ use Rattle.byte_runs.specs.Runs.{is_of, All, laid}
 use Rattle.byte_runs.proofs.Laws.{all-add, all_none, lead-take, lead-none, lead-take-past, length-laid, laid-add, laid-begun, laid-further, laid-whole, laid-paste}
 use Rattle.byte_runs.proofs.Marks.{all-eight, laid-eight, laid-some}
 use Rattle.byte_runs.proofs.copy_run.Goals as goal
-use Rattle.byte_runs.proofs.copy_run.Goals.{else-left-room, then-left-room}
+use Rattle.byte_runs.proofs.copy_run.Goals.{After-blend, else-left-room, then-left-room}
 
 -- what stands before the mark is laid, and is less than eight bytes, and the next is not of the sort
-more : (c : goal.After-blend) → let a = c.args in let l = c.loop-m in All (is_of a.sort) a.s.now (a.i + l.m) c.blend.result × (c.blend.result < 8) × (c.blend.new.0 ≡ laid l.d (a.l + l.m) a.s.now (a.i + l.m) c.blend.result) × (is_of a.sort (get_or a.s.now (a.i + l.m + c.blend.result) 0) ≡ false)
+more : (c : After-blend) → let a = c.args in let l = c.loop-m in All (is_of a.sort) a.s.now (a.i + l.m) c.blend.result × (c.blend.result < 8) × (c.blend.new.0 ≡ laid l.d (a.l + l.m) a.s.now (a.i + l.m) c.blend.result) × (is_of a.sort (get_or a.s.now (a.i + l.m + c.blend.result) 0) ≡ false)
 more c =
     let a = c.args in
     let s = a.s.now in

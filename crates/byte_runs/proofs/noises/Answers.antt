@@ -14,9 +14,10 @@ use Rattle.byte_runs.specs.Runs.{is_of}
 use Rattle.byte_runs.specs.Noises.{Noised}
 use Rattle.byte_runs.proofs.NoiseLaws.{heard, noised-le, noised-more, noised_at, noises_of-le, noises_at-past, Hears, hears-none, hears-le, hears-told, hears-idle, hears-few, hears-noise, hears-first, hears-stops, hears-some}
 use Rattle.byte_runs.proofs.noises.Goals as goal
+use Rattle.byte_runs.proofs.noises.Goals.{After-begun-count, After-begun-more, After-noisy_at-last}
 
 -- the 7e is one of the eight
-few : (c : goal.After-begun-more) → c.first-k.result < 8
+few : (c : After-begun-more) → c.first-k.result < 8
 few c =
     let a = c.args in
     let s = a.s.now in
@@ -30,7 +31,7 @@ few c =
     hears-first a.noisy s a.i l.before l.count l.at (l.at + 8 - l.at) word.result z.result l.invariant known (omega arith) (omega arith) word.ensures z.ensures was.result x.result was.ensures x.ensures (search rules) k.result k.ensures
 
 -- what stands before the 7e is heard
-some : (c : goal.After-noisy_at-last) → let a = c.args in let l = c.loop-at in Hears a.noisy a.s.now a.i c.noisy_at-last.result (l.count + c.begun-more.result) (l.at + c.first-k.result)
+some : (c : After-noisy_at-last) → let a = c.args in let l = c.loop-at in Hears a.noisy a.s.now a.i c.noisy_at-last.result (l.count + c.begun-more.result) (l.at + c.first-k.result)
 some c =
     let a = c.args in
     let s = a.s.now in
@@ -46,7 +47,7 @@ some c =
     hears-some a.noisy s a.i l.before l.count l.at (l.at + 8 - l.at) word.result z.result l.invariant known (omega arith) (omega arith) word.ensures z.ensures was.result x.result was.ensures x.ensures (search rules) k.result m.result c.noisy_at-last.result begun.result k.ensures m.ensures begun.ensures c.noisy_at-last.ensures
 
 -- a word has at most eight noises
-few-more : (c : goal.After-begun-count) → c.begun-count.result ≤ 8
+few-more : (c : After-begun-count) → c.begun-count.result ≤ 8
 few-more c =
     let a = c.args in
     let s = a.s.now in

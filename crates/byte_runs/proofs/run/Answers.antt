@@ -14,9 +14,10 @@ use Rattle.byte_runs.specs.Runs.{is_of, All}
 use Rattle.byte_runs.proofs.Laws.{all-add, all_none, lead-drop, lead-past}
 use Rattle.byte_runs.proofs.Marks.{all-eight, first-eight}
 use Rattle.byte_runs.proofs.run.Goals as goal
+use Rattle.byte_runs.proofs.run.Goals.{After-first}
 
 -- what stands before the mark is of the sort, less than eight bytes, and the next is not
-passed : (c : goal.After-first) → let a = c.args in let at = a.i + c.loop-m.m in let r = c.first.result in All (is_of a.sort) a.s.now at r × (r < 8) × (is_of a.sort (get_or a.s.now (at + r) 0) ≡ false)
+passed : (c : After-first) → let a = c.args in let at = a.i + c.loop-m.m in let r = c.first.result in All (is_of a.sort) a.s.now at r × (r < 8) × (is_of a.sort (get_or a.s.now (at + r) 0) ≡ false)
 passed c =
     let a = c.args in
     let s = a.s.now in
