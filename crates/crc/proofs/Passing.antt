@@ -37,6 +37,8 @@ xor_words-zeros (w ∷ ws) = ap₂ (λ (v : ℕ) (vs : List ℕ). v ∷ vs) (xor
 
 crc_words-xor : (ws vs : List ℕ) → Same ws vs → (a b : ℕ) → crc_words (bit_xor a b) (xor_words ws vs) ≡ bit_xor (crc_words a ws) (crc_words b vs)
 crc_words-xor [] [] m a b = refl
+crc_words-xor [] (v ∷ vs) m a b = elim m [ ]
+crc_words-xor (w ∷ ws) [] m a b = elim m [ ]
 crc_words-xor (w ∷ ws) (v ∷ vs) m a b =
     ap (λ (c : ℕ). crc_words c (xor_words ws vs)) (ap (crc_bits 64) (xor-swap a b w v) ∙ linear-crc_bits 64 (bit_xor a w) (bit_xor b v))
     ∙ crc_words-xor ws vs m (crc_bits 64 (bit_xor a w)) (crc_bits 64 (bit_xor b v))

@@ -1,7 +1,7 @@
 -- The check of bytes, as bits of the number that they make, and the laws that the functions of words cite. Assumes nothing.
-use mathlib.Core.Path.{◌≡◌, refl, sym, ap, ap₂, ◌∙◌, subst}
-use mathlib.Core.List.{List, [], ◌∷◌, ◌++◌}
-use Prim.Native.Nat.{ℕ, zero, suc, ◌+◌, ◌-◌, ◌*◌, ◌/◌, ◌%◌, ◌^◌, ◌<◌, ◌≤◌}
+use mathlib.Core.Path.{◌≡◌, refl, sym, ap, ap₂, ◌∙◌}
+use mathlib.Core.List.{List, [], ◌∷◌}
+use Prim.Native.Nat.{ℕ, zero, suc, ◌+◌, ◌*◌, ◌/◌, ◌%◌, ◌^◌, ◌<◌, ◌≤◌}
 use native.Mathlib.Nat.{zero-lt-suc, add-zero, zero-add, suc-add, add-suc, add_comm, add_assoc, mul_comm, mul_assoc, add-mul, suc-mul, mul-one, mod-eq_of_lt, div-eq_of_lt}
 use native.Mathlib.Omega.{arith}
 use lib.Pow.{pow-add, pow_mono, high}

@@ -1,10 +1,8 @@
 -- `crc::by_table::crc_by` is the check of the whole slice: the check of what is left, from what was made so far, stays the same. Assumes nothing.
 use Prim.Native.Nat.{◌≤◌, ◌-◌}
-use mathlib.Core.Path.{◌≡◌, refl, sym, ◌∙◌}
-use borrow.Author.Rules.{rules}
+use mathlib.Core.Path.{◌≡◌}
 use lib.ListN.{length, drop}
 use Rattle.crc.specs.Crc.{crc_from}
-use Rattle.crc.proofs.Laws.{crc_from-drop, crc_from-end}
 use Rattle.crc.proofs.by_table.crc_by.Given as goal
 
 abbrev pub invariant-loop-i : goal.invariant-loop-i

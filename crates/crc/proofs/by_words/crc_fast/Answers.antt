@@ -10,5 +10,5 @@ overflow_cast-result c = let a = c.args in
     record {
       fits =
           subst (λ (x : ℕ). x < 2 ^ 16) (sym c.crc_wide.ensures)
-          (crc_from-lt a.buffer.now a.start (search rules) (λ k. (c.shared_slice_known-1.given k).fits));
+          (crc_from-lt a.buffer.now a.start (search rules) (λ k. (c.type_inv.buffer k).fits));
     }

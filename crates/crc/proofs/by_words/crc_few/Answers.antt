@@ -13,4 +13,4 @@ returns c = let a = c.args in
     let b = a.b.now in
     let n = length b in
     c.settle.ensures
-    ∙ crc_from-few b (λ k. (c.shared_slice_known-1.given k).fits) (n - 4) (8 - n) a.start c.half_at-2.result c.half_at.result (omega arith) (omega arith) (search rules) c.half_at-2.ensures.0 c.half_at.ensures.0
+    ∙ crc_from-few b (λ k. (c.type_inv.b k).fits) (n - 4) (8 - n) a.start c.half_at-2.result c.half_at.result (omega arith) (omega arith) (search rules) c.half_at-2.ensures.0 c.half_at.ensures.0

@@ -7,4 +7,4 @@ use Rattle.crc.proofs.by_words.crc_four.Goals as goal
 pub returns : goal.returns
 returns c = let a = c.args in
     c.settle.ensures
-    ∙ crc_from-half a.b.now (λ k. (c.shared_slice_known-1.given k).fits) a.start c.half_at.result (search rules) (search rules) c.half_at.ensures.0 c.half_at.ensures.1
+    ∙ crc_from-half a.b.now (λ k. (c.type_inv.b k).fits) a.start c.half_at.result (search rules) (search rules) c.half_at.ensures.0 c.half_at.ensures.1

@@ -1,12 +1,8 @@
 -- `crc::by_words::crc_many` is the check of 32 bytes or more: the four words in hand come to the check of what was read. Assumes nothing.
-use Prim.Native.Nat.{◌≤◌, ◌-◌}
-use mathlib.Core.Path.{◌≡◌, ◌∙◌}
-use mathlib.Core.List.{[], ◌∷◌}
+use mathlib.Core.Path.{◌∙◌}
 use native.Mathlib.Omega.{arith}
-use lib.ListN.{length, take}
 use borrow.Author.Rules.{rules}
-use Rattle.crc.specs.Crc.{crc_bits, crc_from}
-use Rattle.crc.specs.Words.{crc_words}
+use Rattle.crc.specs.Crc.{crc_bits}
 use Rattle.crc.proofs.Words.{crc_from-four, crc_from-pass, crc_from-whole}
 use Rattle.crc.proofs.by_words.crc_many.Goals as goal
 
@@ -18,7 +14,7 @@ loop-i-init c = let a = c.args in
     let w = c.word_at-w in (
       omega arith,
       omega arith,
-      crc_from-four a.b.now (λ k. (c.shared_slice_known-1.given k).fits) a.start t.result u.result v.result w.result (search rules) t.ensures u.ensures v.ensures w.ensures,
+      crc_from-four a.b.now (λ k. (c.type_inv.b k).fits) a.start t.result u.result v.result w.result (search rules) t.ensures u.ensures v.ensures w.ensures,
     )
 
 pub loop-i-preserved : goal.loop-i-preserved
@@ -28,7 +24,7 @@ loop-i-preserved c = let a = c.args in
     let z = c.word_at-in-loop-i in (
       omega arith,
       omega arith,
-      crc_from-pass a.b.now (λ k. (c.shared_slice_known-1.given k).fits) l.i a.start l.t x.result l.u l.v l.w z.result (omega arith) x.ensures.1 x.ensures.0 l.invariant.2 z.ensures,
+      crc_from-pass a.b.now (λ k. (c.type_inv.b k).fits) l.i a.start l.t x.result l.u l.v l.w z.result (omega arith) x.ensures.1 x.ensures.0 l.invariant.2 z.ensures,
     )
 
 pub returns : goal.returns

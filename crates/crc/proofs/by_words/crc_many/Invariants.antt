@@ -1,13 +1,10 @@
 -- `crc::by_words::crc_many` is the check of 32 bytes or more: the four words in hand come to the check of what was read. Assumes nothing.
 use Prim.Native.Nat.{◌≤◌, ◌-◌}
-use mathlib.Core.Path.{◌≡◌, ◌∙◌}
+use mathlib.Core.Path.{◌≡◌}
 use mathlib.Core.List.{[], ◌∷◌}
-use native.Mathlib.Omega.{arith}
-use lib.ListN.{length, take}
-use borrow.Author.Rules.{rules}
-use Rattle.crc.specs.Crc.{crc_bits, crc_from}
+use lib.ListN.{take}
+use Rattle.crc.specs.Crc.{crc_from}
 use Rattle.crc.specs.Words.{crc_words}
-use Rattle.crc.proofs.Words.{crc_from-four, crc_from-pass, crc_from-whole}
 use Rattle.crc.proofs.by_words.crc_many.Given as goal
 
 abbrev pub invariant-loop-i : goal.invariant-loop-i

@@ -1,11 +1,8 @@
 -- `crc::by_words::crc_words` is the check of eight bytes or more: the word in hand comes to the check of what was read, and the tail to the rest. Assumes nothing.
 use Prim.Native.Nat.{◌≤◌, ◌-◌}
-use mathlib.Core.Path.{◌≡◌, ◌∙◌}
-use native.Mathlib.Omega.{arith}
-use lib.ListN.{length, take}
-use borrow.Author.Rules.{rules}
+use mathlib.Core.Path.{◌≡◌}
+use lib.ListN.{take}
 use Rattle.crc.specs.Crc.{crc_bits, crc_from}
-use Rattle.crc.proofs.Words.{crc_from-begun, crc_from-turn, crc_from-whole}
 use Rattle.crc.proofs.by_words.crc_words.Given as goal
 
 abbrev pub invariant-loop-i : goal.invariant-loop-i

@@ -3,7 +3,6 @@ use Prim.Native.Nat.{◌-◌}
 use mathlib.Core.Path.{sym}
 use native.Mathlib.Omega.{arith}
 use lib.ListN.{length}
-use borrow.Author.Rules.{rules}
 use Rattle.crc.specs.Crc.{crc_bits}
 use Rattle.crc.proofs.Laws.{crc_from-end}
 use Rattle.crc.proofs.Words.{crc_from-tail}
@@ -18,4 +17,4 @@ returns c = let a = c.args in
     let b = a.b.now in
     let n = length b in
     let r = n - a.i in
-    crc_from-tail b (λ k. (c.shared_slice_known-1.given k).fits) r (8 - r) a.i (n - 8) a.x c.fold.result c.word_at.result (omega arith) (omega arith) (omega arith) c.word_at.ensures c.fold.ensures
+    crc_from-tail b (λ k. (c.type_inv.b k).fits) r (8 - r) a.i (n - 8) a.x c.fold.result c.word_at.result (omega arith) (omega arith) (omega arith) c.word_at.ensures c.fold.ensures
