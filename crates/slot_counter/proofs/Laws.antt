@@ -1,10 +1,9 @@
 -- Masks and sums of slot counters, and what `slots_since` means: so many slots after the past, around 48000, is the present. Assumes nothing.
-use Rattle.std.proofs.Common.{◌≡◌, ℕ, zero, suc, ◌+◌, ◌-◌, ◌*◌, ◌/◌, ◌%◌, ◌^◌, ◌<◌, ◌≤◌, Bool, true, false, cond, eqb, ltb, leb, sym, refl, ap, ◌∙◌, mod-eq_of_lt, arith, ltb-false, ltb-true, le-ltb, lt-ltb, eq-eqb, ne_eqb, le-leb, leb-true}
-use lib.Bits.{bit_and, bit_or, and_mask, and_high, or_shifted}
+use Rattle.std.proofs.Common.{◌≡◌, ℕ, zero, suc, ◌+◌, ◌-◌, ◌*◌, ◌/◌, ◌%◌, ◌^◌, ◌<◌, ◌≤◌, Bool, true, false, cond, ltb, refl, ap, ◌∙◌, mod-eq_of_lt, arith, ltb-false, ltb-true, le-ltb, lt-ltb, ne_eqb, le-leb}
+use lib.Bits.{bit_and, and_mask, and_high, or_shifted}
 use borrow.Author.Tests.{lt-leb}
 use Rattle.slot_counter.specs.declared.SlotEpoch.{SlotEpoch}
 use Rattle.slot_counter.specs.declared.SlotEpoch.TheVariants.{Epoch0, Epoch4, Epoch8, EpochC}
-use Rattle.slot_counter.specs.declared.Since.{Since}
 use Rattle.slot_counter.specs.declared.Since.TheVariants.{Slots, Bad}
 use Rattle.slot_counter.specs.Slots.{index_of, epoch_at, epoch_of, number_in, new_of, abs_of, abs_in, apart, slots_since_of}
 

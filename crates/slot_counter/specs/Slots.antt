@@ -1,5 +1,5 @@
 -- Slot counters in plain arithmetic, after slot_counter.rs. Assumes nothing.
-use Rattle.std.specs.Prelude.{◌≡◌, ℕ, ◌+◌, ◌-◌, ◌*◌, ◌/◌, ◌%◌, ◌≤◌, Bool, true, false, cond, ◌==◌, bit_or, nat_le, nat_lt}
+use Rattle.std.specs.Prelude.{ℕ, ◌+◌, ◌-◌, ◌*◌, ◌/◌, ◌%◌, cond, ◌==◌, bit_or, nat_le, nat_lt}
 use Rattle.slot_counter.specs.declared.SlotEpoch.{SlotEpoch}
 use Rattle.slot_counter.specs.declared.SlotEpoch.TheVariants.{Epoch0, Epoch4, Epoch8, EpochC}
 use Rattle.slot_counter.specs.declared.Numbered.{Numbered}

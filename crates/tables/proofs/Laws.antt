@@ -1,15 +1,14 @@
 -- Laws of searches in a list of keys: bounds, and one step of each loop. Assumes nothing.
-use mathlib.Core.Path.{◌≡◌, refl, sym, ◌∙◌, ap}
+use mathlib.Core.Path.{◌≡◌, refl, ◌∙◌}
 use Prim.Native.Nat.{ℕ, zero, suc, ◌+◌, ◌≤◌, ◌<◌}
 use mathlib.Core.Bool.{Bool, true, false, cond, not, ◌&&◌}
 use mathlib.Core.List.{List, [], ◌∷◌}
 use native.Mathlib.Omega.{arith}
-use native.Mathlib.Numerals.{add-one}
 use lib.ListN.{length, get_or, drop, drop_of_length-le}
-use lib.Seq.{drop-cons, drop-drop, get_or-drop, drop-nil}
+use lib.Seq.{drop-cons, drop-drop, get_or-drop}
 use lib.Dec.{eqb, ltb}
 use borrow.Author.Tests.{eqb-true, eqb-false, eq-eqb, ne_eqb, lt-ltb, le-ltb}
-use Rattle.tables.specs.Keys.{first_of, seat_of, any_over, over_of}
+use Rattle.tables.specs.Keys.{first_of, any_over, over_of}
 
 -- a place or the number of places
 pub first-le : (l : List ℕ) (k : ℕ) → first_of l k ≤ length l

@@ -1,18 +1,17 @@
 -- What the arrays' searches and stores are in 01's places. Assumes nothing.
 use mathlib.Core.Path.{◌≡◌, refl, sym, ◌∙◌, ap}
 use Prim.Native.Nat.{ℕ, zero, suc, ◌+◌, ◌≤◌, ◌<◌}
-use mathlib.Core.Bool.{Bool, true, false, cond, not, ◌||◌}
+use mathlib.Core.Bool.{Bool, true, false, cond, ◌||◌}
 use mathlib.Core.List.{List, [], ◌∷◌}
-use mathlib.Core.Logic.{⊎_elim}
-use mathlib.Core.Option.{Option, none, some}
+use mathlib.Core.Option.{none, some}
 use native.Mathlib.Omega.{arith}
 use lib.ListN.{length, get_or, set, length-set, get_or-eq_default}
 use lib.Seq.{get_or-set_same, get_or-set_other, set-get_or, ext_get_or}
 use lib.Dec.{eqb, ltb}
-use borrow.Author.Tests.{eqb-true, eqb-false, eq-eqb, ne_eqb, lt-ltb, le-ltb, ltb-true, ltb-false}
+use borrow.Author.Tests.{eqb-true, eqb-false, eq-eqb, ne_eqb, lt-ltb, le-ltb}
 use Rattle.tables.specs.Keys.{first_of, seat_of}
-use Rattle.tables.specs.Places.{Place, free, held, holds, is_free, first_with, holder, is_held, vacancy, has_room, seat, stored, removed, value_in, value_at, place_of, places_from, places_of}
-use Rattle.tables.proofs.Laws.{first-le, first_holds}
+use Rattle.tables.specs.Places.{Place, free, held, holds, is_free, first_with, holder, is_held, vacancy, has_room, seat, stored, removed, value_at, place_of, places_from, places_of}
+use Rattle.tables.proofs.Laws.{first_holds}
 
 -- a test of two successors is the test of the two
 pub eqb-suc : (j k : ℕ) → eqb (suc j) (suc k) ≡ eqb j k

@@ -1,5 +1,5 @@
 -- A table in 01's words: a list of places, each free or holding a key and a value. Assumes nothing.
-use Rattle.std.specs.Prelude.{◌≡◌, ℕ, zero, suc, Bool, true, false, cond, not, ◌||◌, List, [], ◌∷◌, length, get_or, set, eqb, ltb}
+use Rattle.std.specs.Prelude.{◌≡◌, ℕ, zero, suc, Bool, true, false, cond, ◌||◌, List, [], ◌∷◌, length, get_or, set, eqb, ltb}
 use Rattle.std.proofs.Math.Option.{Option, none, some}
 
 -- 01, "Transport": a place freed by a response is used again: a place of a table is free, or holds a key and a value

@@ -1,5 +1,5 @@
 -- `abs_slots` is below 48,000: the epoch's index is below 4. Assumes nothing.
-use Rattle.std.proofs.Common.{arith, rules}
+use Rattle.std.proofs.Common.{arith}
 use Rattle.slot_counter.proofs.Laws.{index_of-lt}
 use Rattle.slot_counter.proofs.abs_slots.Goals as goal
 

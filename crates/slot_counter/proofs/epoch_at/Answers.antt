@@ -1,5 +1,5 @@
 -- `epoch_at` takes the four indices apart. Assumes nothing.
-use Rattle.std.proofs.Common.{refl}
+use Rattle.std.proofs.Common.{rules}
 use Rattle.slot_counter.specs.Slots.{epoch_at}
 use Rattle.slot_counter.proofs.Laws.{epoch_at-last}
 use Rattle.slot_counter.proofs.epoch_at.Goals as goal
@@ -17,4 +17,4 @@ unfolding epoch_at
 returns-in-2 c = rw c.in-2.is
 
 pub returns-in_default : goal.returns-in_default
-returns-in_default c = let n = c.in-0.rest in epoch_at-last _ n.0.0.1 n.0.1 n.1
+returns-in_default c = epoch_at-last _ (search rules) (search rules) (search rules)

@@ -1,14 +1,9 @@
 -- `tables::any_over` is right: the flag and what is left of the list decide the whole. Assumes nothing.
-use mathlib.Core.Path.{◌≡◌, refl, sym, ◌∙◌, ap}
-use mathlib.Core.Bool.{true, false, cond}
-use mathlib.Core.Logic.{⊎_elim}
-use Prim.Native.Nat.{ℕ, ◌≤◌, ◌<◌, ◌-◌, ◌+◌}
-use native.Mathlib.Omega.{arith}
-use native.Mathlib.Numerals.{add-one}
+use mathlib.Core.Path.{◌≡◌}
+use mathlib.Core.Bool.{true, cond}
+use Prim.Native.Nat.{◌≤◌, ◌-◌}
 use lib.ListN.{length, drop}
-use Rattle.tables.proofs.Laws.{any_here, any-past, any-end}
 use Rattle.tables.specs.Keys.{any_over}
-use borrow.Author.Rules.{rules}
 use Rattle.tables.proofs.any_over.Given as goal
 
 abbrev pub invariant-loop-i : goal.invariant-loop-i

@@ -1,13 +1,9 @@
 -- `tables::find` is right: what the search finds from place i on is what it finds from the start, i places further on.
 -- Assumes nothing.
-use mathlib.Core.Path.{◌≡◌, refl, sym, ◌∙◌, ap}
-use Prim.Native.Nat.{ℕ, ◌≤◌, ◌<◌, ◌-◌, ◌+◌}
-use native.Mathlib.Omega.{arith}
-use native.Mathlib.Numerals.{add-one}
+use mathlib.Core.Path.{◌≡◌}
+use Prim.Native.Nat.{◌≤◌, ◌-◌, ◌+◌}
 use lib.ListN.{length, drop}
-use Rattle.tables.proofs.Laws.{first-here, first_past, first-end}
 use Rattle.tables.specs.Keys.{first_of}
-use borrow.Author.Rules.{rules}
 use Rattle.tables.proofs.find.Given as goal
 
 abbrev pub invariant-loop-i : goal.invariant-loop-i

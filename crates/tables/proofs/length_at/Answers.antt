@@ -1,6 +1,5 @@
 -- `tables::length_at` is right: past the end a list's element is the default. Assumes nothing.
 use mathlib.Core.Path.{sym}
-use borrow.Author.Rules.{rules}
 use lib.ListN.{get_or-eq_default}
 use Rattle.tables.proofs.length_at.Goals as goal
 

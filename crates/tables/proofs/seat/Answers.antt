@@ -1,7 +1,6 @@
 -- `tables::seat` is right: both searches are `find`. Assumes nothing.
 use borrow.Author.Tests.{lt-ltb, le-ltb}
 use Rattle.tables.specs.Keys.{seat_of}
-use borrow.Author.Rules.{rules}
 use Rattle.tables.proofs.seat.Goals as goal
 
 pub returns-then-i-keys : goal.returns-then-i-keys

@@ -18,4 +18,4 @@ returns-in-32768 c = epoch-found c.args.self.0 (search rules) 2 c.in-32768.is
 
 pub returns-in_default : goal.returns-in_default
 unfolding epoch_at
-returns-in_default c = let n = c.in-0.rest in epoch-last c.args.self.0 (search rules) n.0.0.1 n.0.1 n.1
+returns-in_default c = epoch-last c.args.self.0 (search rules) (search rules) (search rules) (search rules)

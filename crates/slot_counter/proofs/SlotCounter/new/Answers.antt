@@ -1,6 +1,5 @@
 -- `SlotCounter::new` lays the number's bits beside the epoch's. Assumes nothing.
 use Rattle.slot_counter.specs.Slots.{new_of}
-use Rattle.std.proofs.Common.{rules}
 use Rattle.slot_counter.proofs.SlotCounter.new.Goals as goal
 
 pub returns-in-Epoch0 : goal.returns-in-Epoch0
