@@ -1,9 +1,7 @@
 -- A node and its address lead to each other, and no ID is 0. Assumes nothing.
-use Rattle.std.proofs.Common.{◌≡◌, ℕ, ◌+◌, ◌<◌, Bool, true, false, cond, eqb, ltb, sym, refl, ap, ◌∙◌, arith, ltb-true, le-ltb, lt-ltb, ne_eqb, eqb-true}
+use Rattle.std.proofs.Common.{◌≡◌, ℕ, ◌+◌, ◌<◌, Bool, true, false, cond, eqb, ltb, sym, refl, ap, arith, ne_eqb, eqb-true}
 use Rattle.network.specs.declared.NodeID.{NodeID}
-use Rattle.network.specs.declared.Node.{Node}
 use Rattle.network.specs.declared.Node.TheVariants.{ID, Zero}
-use Rattle.network.specs.declared.Successor.{Successor}
 use Rattle.network.specs.declared.Successor.TheVariants.{Next, Last}
 use Rattle.network.specs.Nodes.{node_of, address_of, successor_of}
 

@@ -1,7 +1,6 @@
 -- An area is divided into its packets and the rest in exactly one way, and `packets_of` is that way. Assumes nothing.
-use Rattle.std.proofs.Common.{◌≡◌, ℕ, zero, suc, ◌+◌, ◌-◌, ◌<◌, ◌≤◌, Bool, true, false, cond, leb, List, [], ◌∷◌, ◌++◌, length, get_or, take, drop, sym, refl, ap, ◌∙◌, ap₂, append_assoc, append-nil, le_of_suc-le-suc, zero-lt-suc, arith, length-append, length-drop, take-append-drop, length-take-le, get_or-take, take_at, drop_at, le-leb, leb-false, leb-true}
+use Rattle.std.proofs.Common.{◌≡◌, ℕ, zero, suc, ◌+◌, ◌-◌, ◌<◌, ◌≤◌, Bool, true, false, cond, leb, List, [], ◌∷◌, ◌++◌, length, get_or, take, drop, sym, refl, ap, ◌∙◌, append_assoc, append-nil, le_of_suc-le-suc, zero-lt-suc, arith, length-append, length-drop, take-append-drop, length-take-le, get_or-take, take_at, drop_at, le-leb, leb-false, leb-true}
 use lib.ListN.{get_or-append}
-use lib.Seq.{take-length, drop-length}
 use borrow.Author.Tests.{lt-leb}
 use Rattle.network.specs.Split.{Split, header_size, packet_size, Whole, put, packets_past, packets_of, joined, Divides}
 

@@ -1,6 +1,6 @@
 -- A walker over a packet area tells the splitter's list: each packet once, in order, one 'too short' exactly if bytes are left, and then it is
 -- finished. Assumes nothing.
-use Rattle.std.proofs.Common.{◌≡◌, ℕ, zero, suc, ◌+◌, ◌-◌, ◌<◌, ◌≤◌, List, [], ◌∷◌, length, take, drop, sym, refl, ap, ◌∙◌, arith, length-drop, drop_of_length-le, length-take-le, ne_eqb}
+use Rattle.std.proofs.Common.{◌≡◌, ℕ, zero, suc, ◌+◌, ◌-◌, ◌≤◌, List, [], ◌∷◌, length, take, drop, sym, refl, ap, ◌∙◌, arith, length-drop, drop_of_length-le, length-take-le, ne_eqb}
 use Rattle.network.specs.declared.Found.{Found}
 use Rattle.network.specs.declared.Found.TheVariants.{Packet, TooShort, Finished}
 use Rattle.network.specs.declared.received_packets.Sight.{Sight}

@@ -1,5 +1,5 @@
 -- Node IDs, node addresses and the header of a received packet, after network.rs. Assumes nothing.
-use Rattle.std.specs.Prelude.{ℕ, ◌+◌, ◌%◌, ◌<◌, ◌≤◌, Bool, true, false, cond, List, length, ◌==◌, nat_lt, slice_index}
+use Rattle.std.specs.Prelude.{ℕ, ◌+◌, cond, List, length, ◌==◌, nat_lt, slice_index}
 use Rattle.laws.specs.Bytes.{be16_at}
 use Rattle.network.specs.declared.Node.{Node}
 use Rattle.network.specs.declared.Node.TheVariants.{ID, Zero}

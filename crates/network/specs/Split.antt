@@ -1,5 +1,5 @@
 -- The packets of a packet area, and the walk that meets them one after another. Assumes nothing.
-use Rattle.std.specs.Prelude.{◌≡◌, ℕ, zero, suc, ◌+◌, ◌-◌, ◌<◌, Bool, true, false, cond, List, [], ◌∷◌, ◌++◌, length, take, drop, ◌==◌, nat_le, nat_lt, slice_index, slice_index_or, slice_range}
+use Rattle.std.specs.Prelude.{◌≡◌, ℕ, zero, suc, ◌+◌, ◌-◌, ◌<◌, cond, List, [], ◌∷◌, ◌++◌, length, take, drop, ◌==◌, nat_le, nat_lt, slice_index, slice_index_or, slice_range}
 use Rattle.network.specs.declared.Found.{Found}
 use Rattle.network.specs.declared.Found.TheVariants.{Packet, TooShort, Finished}
 use Rattle.network.specs.declared.Tally.{Tally}

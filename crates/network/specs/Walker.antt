@@ -4,7 +4,7 @@ use Rattle.network.specs.declared.Found.{Found}
 use Rattle.network.specs.declared.Found.TheVariants.{Packet, TooShort, Finished}
 use Rattle.network.specs.declared.received_packets.Sight.{Sight}
 use Rattle.network.specs.declared.received_packets.ReceivedPackets.{ReceivedPackets}
-use Rattle.network.specs.Split.{Split, header_size, found_at}
+use Rattle.network.specs.Split.{header_size, found_at}
 
 -- 01, "Transport": a walker over it keeps its place between packets. Behind a packet it goes on; after too few bytes it is at the area's end, and a
 -- finished walker stays where it is
