@@ -1,5 +1,5 @@
 -- Where the fields of a receive response lie, and that what is handed back tells any two answers apart. Assumes nothing.
-use Rattle.std.proofs.Common.{◌≡◌, ℕ, ◌+◌, ◌≤◌, Bool, true, false, cond, List, sym, refl, ap, ◌∙◌, ap₂, arith}
+use Rattle.std.proofs.Common.{◌≡◌, ℕ, ◌+◌, ◌≤◌, Bool, true, false, cond, List, ap₂, arith}
 use Rattle.laws.specs.Bytes.{be16_at}
 use Rattle.slot_counter.specs.declared.SlotCounter.{SlotCounter}
 use Rattle.transport.specs.declared.PacketNumber.{PacketNumber}
@@ -8,9 +8,9 @@ use Rattle.transport.specs.declared.OptionalPair.{OptionalPair}
 use Rattle.transport.specs.declared.ReceiveResponse.{ReceiveResponse}
 use Rattle.transport.specs.declared.ReceiveRead.{ReceiveRead}
 use Rattle.transport.specs.declared.ReceiveRead.TheVariants.{Response, TooShort, UnknownStatusType}
-use Rattle.transport.specs.Status.{clear, field_size, rx_buffers_used_at, tx_buffers_free_at, unknown_aat, unknown_bat, number_at, slot_counter_at, needed_of}
+use Rattle.transport.specs.Status.{clear, field_size, rx_buffers_used_at, tx_buffers_free_at, unknown_aat, unknown_bat, number_at, slot_counter_at}
 use Rattle.transport.specs.Number.{number_of}
-use Rattle.transport.specs.Response.{byte_in, pair_in, response_in, Told, refused, fields, handed_read}
+use Rattle.transport.specs.Response.{byte_in, pair_in, response_in, handed_read}
 
 -- a field is never longer than itself: the bounds of `fields` cite this
 pub field_size-le : (status bit size : ℕ) → field_size status bit size ≤ size

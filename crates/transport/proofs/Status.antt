@@ -1,8 +1,8 @@
 -- The length needed, counted by the ones of the masked status word, is the sum of its fields for every word. Assumes nothing.
-use Rattle.std.proofs.Common.{◌≡◌, ℕ, zero, suc, ◌+◌, ◌-◌, ◌*◌, ◌%◌, ◌^◌, ◌<◌, ◌≤◌, Bool, true, false, cond, T, eqb, leb, ◌⊎◌, sym, refl, ap, ◌∙◌, subst, inl, inr, le_of_suc-le-suc, lt_of_le_of_lt, mod-lt, mod-eq_of_lt, eq-or-lt_of_le, arith, eqb→eq, leb→le}
+use Rattle.std.proofs.Common.{◌≡◌, ℕ, zero, suc, ◌%◌, ◌^◌, ◌<◌, ◌≤◌, Bool, true, false, cond, T, eqb, leb, ◌⊎◌, sym, ap, ◌∙◌, subst, inl, inr, le_of_suc-le-suc, lt_of_le_of_lt, mod-lt, mod-eq_of_lt, eq-or-lt_of_le, arith, eqb→eq, leb→le}
 use lib.Bits.{bit_and, and_mod, and_le_r}
 use lib.Count.{ones, ones_in}
-use Rattle.transport.specs.Status.{clear, field_size, number_at, slot_counter_at, needed_of, needed_by_ones}
+use Rattle.transport.specs.Status.{clear, needed_of, needed_by_ones}
 
 -- a mask below 32 sees the low five bits alone
 and_low : (s m : ℕ) → m < 2 ^ 5 → bit_and s m ≡ bit_and (s % 2 ^ 5) m

@@ -1,5 +1,5 @@
 -- 01's marked cases on packet numbers and status words, as one table of rows. Assumes nothing.
-use Rattle.std.specs.Prelude.{ℕ, Bool, true, false, cond, List, [], ◌∷◌, ◌==◌}
+use Rattle.std.specs.Prelude.{ℕ, Bool, false, cond, List, [], ◌∷◌, ◌==◌}
 use Rattle.transport.specs.Status.{accepted_of, needed_of}
 use Rattle.transport.specs.Number.{interpret_of}
 

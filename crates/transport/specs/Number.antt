@@ -1,5 +1,5 @@
 -- Packet numbers. Assumes nothing.
-use Rattle.std.specs.Prelude.{ℕ, ◌+◌, ◌/◌, ◌%◌, Bool, true, false, cond, List, nat_le, slice_index}
+use Rattle.std.specs.Prelude.{ℕ, ◌+◌, ◌/◌, ◌%◌, cond, List, nat_le, slice_index}
 use Rattle.laws.specs.Bytes.{of16, be16_at}
 use Rattle.transport.specs.Status.{clear, number_at}
 

@@ -1,5 +1,5 @@
 -- A receive response: which fields it has, and what refuses it. Assumes nothing.
-use Rattle.std.specs.Prelude.{ℕ, ◌+◌, Bool, true, false, cond, List, [], ◌∷◌, length, nat_lt, slice_index}
+use Rattle.std.specs.Prelude.{ℕ, ◌+◌, Bool, cond, List, length, nat_lt, slice_index}
 use Rattle.laws.specs.Bytes.{be16_at}
 use Rattle.laws.specs.Numbers.{number_of as refusal_number, wrong_status, too_short}
 use Rattle.transport.specs.declared.OptionalByte.{OptionalByte}

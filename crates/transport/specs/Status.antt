@@ -1,5 +1,5 @@
 -- A receive response's status word: whether it is accepted, which fields follow it, and how long the response has to be. Assumes nothing.
-use Rattle.std.specs.Prelude.{ℕ, ◌+◌, ◌-◌, ◌*◌, Bool, true, false, cond, ◌==◌, bit_and, count_ones}
+use Rattle.std.specs.Prelude.{ℕ, ◌+◌, ◌-◌, ◌*◌, Bool, cond, ◌==◌, bit_and, count_ones}
 
 -- 01, "Transport": a receive response starts with a big-endian status word with all of 0x00e0 set
 abbrev pub accepted_of : ℕ → Bool
