@@ -20,7 +20,7 @@ use Rattle.byte_runs.specs.Runs.{fenced, is_of, lead, All, laid}
 use Rattle.byte_runs.specs.declared.Sort.TheVariants as sort
 use Rattle.byte_runs.specs.Marks.{mark, marked, Eight, Marks, Below, First, Blended}
 use Rattle.byte_runs.proofs.Laws.{laid-paste, copy-all, copy-stops}
-use Rattle.byte_runs.proofs.Bytewise.{is_all, is-or, is-xor, is_same, below-is, gives-bytes}
+use Rattle.byte_runs.proofs.Bytewise.{is-or, is_same, below-is, gives-bytes}
 
 -- the mark of a byte, by whether it passes
 abbrev of : Bool → ℕ

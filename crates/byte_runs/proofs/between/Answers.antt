@@ -1,7 +1,6 @@
 -- `byte_runs::between` adds to the lower seven bits of each byte, which no byte carries over. Assumes nothing.
 use native.Mathlib.Omega.{arith}
 use lib.Bits.{and_le_r}
-use borrow.Author.Rules.{rules}
 use Rattle.byte_runs.proofs.between.Goals as goal
 
 pub overflow_add-result : goal.overflow_add-result

@@ -13,11 +13,11 @@ pub returns : goal.returns
 returns c = λ p bs q e.
     let a = c.args in
     let below = c.below-m in
-    let known : Bytes a.d.now = λ k. (c.slice_known-1.given k).fits in
+    let known : Bytes a.d.now = λ k. search rules in
     let some : 1 ≤ marked p bs = subst (λ (x : ℕ). 1 ≤ x) e (search rules) in
     let few : lead p bs < 8 = omega (arith, lead-lt p bs some, q.eight) in
     let m = below.ensures p bs e in
     let word = c.word-b in
     let x = c.first.ensures p bs q.eight e in
     let y = c.put_word in
-    (x, blend-back a.d.now a.l p bs a.w below.result word.result (a.l + 8 - a.l) c.first.result y.new.0 known (search rules) q few m (omega arith) word.ensures y.ensures x)
+    (x, blend-back a.d.now a.l p bs a.w below.result word.result (a.l + 8 - a.l) c.first.result y.new.d known (search rules) q few m (omega arith) word.ensures y.ensures x)

@@ -1,21 +1,9 @@
 -- `byte_runs::copy_run` copies a run: what was passed is of the sort and was laid, and it stops at the first mark of a word, at a byte that is not, at the
 -- end, or where there is no more room. Assumes nothing.
-use Prim.Native.Nat.{ℕ, ◌+◌, ◌-◌, ◌≤◌, ◌<◌}
-use mathlib.Core.Path.{◌≡◌, refl, sym, ap, ◌∙◌, subst}
-use mathlib.Core.Bool.{false}
-use mathlib.Core.List.{List}
-use mathlib.Core.Logic.{⊎_elim}
-use native.Mathlib.Nat.{add_assoc}
-use native.Mathlib.Omega.{arith}
-use lib.ListN.{length, get_or, set, drop}
-use lib.Seq.{paste-zero}
-use borrow.Author.Count.{below_more}
-use borrow.Author.Tests.{not-true, not-false}
-use borrow.Author.Rules.{rules}
-use Rattle.laws.specs.Bytes.{Bytes}
+use Prim.Native.Nat.{◌+◌, ◌-◌, ◌≤◌}
+use mathlib.Core.Path.{◌≡◌}
+use lib.ListN.{length}
 use Rattle.byte_runs.specs.Runs.{is_of, All, laid}
-use Rattle.byte_runs.proofs.Laws.{all-add, all_none, lead-take, lead-none, lead-take-past, length-laid, laid-add, laid-begun, laid-further, laid-whole, laid-paste}
-use Rattle.byte_runs.proofs.Marks.{all-eight, laid-eight, laid-some}
 use Rattle.byte_runs.proofs.copy_run.Given as goal
 
 abbrev pub invariant-loop-m : goal.invariant-loop-m

@@ -2,7 +2,6 @@
 use mathlib.Core.Path.{refl, ap, ◌∙◌}
 use Prim.Native.Nat.{ℕ}
 use lib.Bits.{bit_and, bit_xor}
-use borrow.Author.Rules.{rules}
 use Rattle.byte_runs.specs.Runs.{is_of}
 use Rattle.byte_runs.specs.Marks.{mark, between_of}
 use Rattle.byte_runs.specs.declared.Sort.TheVariants as sort

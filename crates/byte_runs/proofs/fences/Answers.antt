@@ -3,7 +3,6 @@ use mathlib.Core.Path.{refl, ◌∙◌}
 use mathlib.Core.Bool.{not}
 use Prim.Native.Nat.{ℕ}
 use lib.Bits.{bit_and, bit_xor}
-use borrow.Author.Rules.{rules}
 use Rattle.byte_runs.specs.Runs.{fenced}
 use Rattle.byte_runs.specs.Marks.{mark, between_of}
 use Rattle.byte_runs.proofs.Bytewise.{raised_by, is_word, is-between, is_same, below-is, gives-bytes}

@@ -1,6 +1,5 @@
 -- `byte_runs::is` goes by the sort, and by the byte. Assumes nothing.
 use borrow.Author.Tests.{eq-eqb, ne_eqb}
-use borrow.Author.Rules.{rules}
 use Rattle.byte_runs.specs.Runs.{is_of}
 use Rattle.byte_runs.proofs.is.Goals as goal
 

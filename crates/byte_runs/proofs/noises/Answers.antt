@@ -11,7 +11,6 @@ use borrow.Author.Tests.{eq-eqb, ne_eqb}
 use borrow.Author.Rules.{rules}
 use Rattle.laws.specs.Bytes.{Bytes}
 use Rattle.byte_runs.specs.Runs.{is_of}
-use Rattle.byte_runs.specs.Noises.{Noised}
 use Rattle.byte_runs.proofs.NoiseLaws.{heard, noised-le, noised-more, noised_at, noises_of-le, noises_at-past, Hears, hears-none, hears-le, hears-told, hears-idle, hears-few, hears-noise, hears-first, hears-stops, hears-some}
 use Rattle.byte_runs.proofs.noises.Goals as goal
 use Rattle.byte_runs.proofs.noises.Goals.{After-begun-count, After-begun-more, After-noisy_at-last}
@@ -19,6 +18,20 @@ use Rattle.byte_runs.proofs.noises.Goals.{After-begun-count, After-begun-more, A
 -- the 7e is one of the eight
 few : (c : After-begun-more) → c.first-k.result < 8
 few c =
+    let a = c.args in
+    let s = a.s.now in
+    let l = c.loop-at in
+    let word = c.word-w in
+    let z = c.busy-z in
+    let known : Bytes s = λ k. (c.type_inv.s k).fits in
+    let was = c.behind-was in
+    let x = c.escapes-x in
+    let k = c.first-k in
+    hears-first a.noisy s a.i l.before l.count l.at (l.at + 8 - l.at) word.result z.result l.invariant known (omega arith) (omega arith) word.ensures z.ensures was.result x.result was.ensures x.ensures (search rules) k.result k.ensures
+
+-- the same, where the line before it is known
+few' : (c : After-noisy_at-last) → c.first-k.result < 8
+few' c =
     let a = c.args in
     let s = a.s.now in
     let l = c.loop-at in
@@ -81,7 +94,7 @@ pub overflow_add-result : goal.overflow_add-result
 overflow_add-result c = omega (arith, hears-le _ _ _ _ _ _ (some c))
 
 pub overflow_add-result-then-x-ne0 : goal.overflow_add-result-then-x-ne0
-overflow_add-result-then-x-ne0 c = omega (arith, few c)
+overflow_add-result-then-x-ne0 c = omega (arith, few' c)
 
 pub returns-then-x-ne0 : goal.returns-then-x-ne0
 returns-then-x-ne0 c = let a = c.args in

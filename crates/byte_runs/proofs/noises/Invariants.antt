@@ -1,18 +1,8 @@
 -- `byte_runs::noises` hears a word at a time: all its bytes where none is 7e, and else those before the first; and behind the last word byte by byte, up
 -- to a 7e or to the end. Assumes nothing.
-use Prim.Native.Nat.{◌+◌, ◌-◌, ◌≤◌, ◌<◌}
-use mathlib.Core.Path.{ap}
-use mathlib.Core.Bool.{not}
-use mathlib.Core.List.{[], ◌∷◌}
-use native.Mathlib.Omega.{arith}
-use lib.Dec.{eqb}
-use lib.ListN.{get_or}
-use borrow.Author.Tests.{eq-eqb, ne_eqb}
-use borrow.Author.Rules.{rules}
-use Rattle.laws.specs.Bytes.{Bytes}
-use Rattle.byte_runs.specs.Runs.{is_of}
+use Prim.Native.Nat.{◌-◌}
 use Rattle.byte_runs.specs.Noises.{Noised}
-use Rattle.byte_runs.proofs.NoiseLaws.{heard, noised-le, noised-more, noised_at, noises_of-le, noises_at-past, Hears, hears-none, hears-le, hears-told, hears-idle, hears-few, hears-noise, hears-first, hears-stops, hears-some}
+use Rattle.byte_runs.proofs.NoiseLaws.{heard, Hears}
 use Rattle.byte_runs.proofs.noises.Given as goal
 
 abbrev pub invariant-loop-at : goal.invariant-loop-at

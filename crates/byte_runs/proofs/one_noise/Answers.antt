@@ -1,7 +1,6 @@
 -- `byte_runs::one_noise` is one for a byte other than 00 and ff on a line that is not noisy. Assumes nothing.
 use mathlib.Core.Path.{sym, ap, ap₂, ◌∙◌}
 use mathlib.Core.Bool.{Bool, cond}
-use borrow.Author.Rules.{rules}
 use Rattle.byte_runs.specs.Noises.{noises_of}
 use Rattle.byte_runs.proofs.one_noise.Goals as goal
 

@@ -1,5 +1,4 @@
 -- `byte_runs::others` goes by the sort; marks of two sorts are joined. Assumes nothing.
-use borrow.Author.Rules.{rules}
 use Rattle.byte_runs.proofs.Marks.{marks-plain}
 use Rattle.byte_runs.proofs.others.Goals as goal
 

@@ -1,13 +1,12 @@
 -- `byte_runs::run` counts a run: what was passed is of the sort, and it stops at the first mark of a word, or at a byte that is not, or at the end.
 -- Assumes nothing.
-use Prim.Native.Nat.{ℕ, ◌+◌, ◌-◌, ◌≤◌, ◌<◌}
+use Prim.Native.Nat.{ℕ, ◌+◌, ◌-◌, ◌<◌}
 use mathlib.Core.Path.{◌≡◌, sym, subst, ◌∙◌}
 use mathlib.Core.Bool.{false}
 use native.Mathlib.Nat.{add_assoc}
 use native.Mathlib.Omega.{arith}
-use lib.ListN.{length, get_or}
+use lib.ListN.{get_or}
 use borrow.Author.Count.{below_more}
-use borrow.Author.Tests.{not-true, not-false}
 use borrow.Author.Rules.{rules}
 use Rattle.laws.specs.Bytes.{Bytes}
 use Rattle.byte_runs.specs.Runs.{is_of, All}
@@ -63,7 +62,7 @@ loop-m-2-init c = c.loop-m.invariant
 
 pub loop-m-2-preserved : goal.loop-m-2-preserved
 loop-m-2-preserved c = let l = c.loop-m-2 in
-    (omega arith, below_more _ _ l.invariant.1 (sym c.is.ensures ∙ not-false _ c.if-not-is.false))
+    (omega arith, below_more _ _ l.invariant.1 (sym c.is.ensures ∙ c.if-not-is.false))
 
 pub returns-after-loop-m-2 : goal.returns-after-loop-m-2
 returns-after-loop-m-2 c = let a = c.args in
@@ -73,4 +72,4 @@ returns-after-loop-m-2 c = let a = c.args in
 pub returns-then-not-is : goal.returns-then-not-is
 returns-then-not-is c = let a = c.args in
     let l = c.loop-m-2 in
-    sym (lead-drop (is_of a.sort) a.s.now a.i l.m l.invariant.0 l.invariant.1 (λ h. sym c.is.ensures ∙ not-true _ c.if-not-is.true))
+    sym (lead-drop (is_of a.sort) a.s.now a.i l.m l.invariant.0 l.invariant.1 (λ h. sym c.is.ensures ∙ c.if-not-is.true))
