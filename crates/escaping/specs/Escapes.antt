@@ -1,5 +1,5 @@
 -- The escapes of the wire, and what the byte after 7e means. The receiver and the grammar cite both. Assumes nothing.
-use Rattle.std.specs.Prelude.{◌≡◌, ℕ, suc, ◌+◌, ◌<◌, Bool, true, false, cond, List, [], ◌∷◌, ◌++◌, length, get_or, eqb, ltb}
+use Rattle.std.specs.Prelude.{◌≡◌, ℕ, suc, ◌+◌, ◌<◌, cond, List, [], ◌∷◌, ◌++◌, get_or, eqb, ltb}
 
 -- 01, "On the wire": escapes, each after 7e: 7e as 00, 24 as 01, 23 as 02, 25 as 03, a4 as 04, a3 as 05, a5 as 06
 abbrev pub escapes : List ℕ

@@ -5,8 +5,7 @@ use native.Mathlib.Omega.{arith}
 use Rattle.escaping.specs.Escapes.{meaning}
 use Rattle.escaping.specs.Handed.{unescape_handed}
 use Rattle.escaping.proofs.Laws.{unescape_handed-above}
-use Rattle.escaping.proofs.unescaped_byte.Statement.{statement}
-use Rattle.escaping.proofs.unescaped_byte.Tie as tie
+use Rattle.escaping.proofs.unescaped_byte.Goals as goal
 
 -- none of the seven codes: in two steps, as `omega` takes six refutations at the most
 above-3 : (b : ℕ) → (b ≡ 0 → ⊥) → (b ≡ 1 → ⊥) → (b ≡ 2 → ⊥) → (b ≡ 3 → ⊥) → 3 < b
@@ -15,41 +14,37 @@ above-3 b h i j k = omega arith
 above-6 : (b : ℕ) → 3 < b → (b ≡ 4 → ⊥) → (b ≡ 5 → ⊥) → (b ≡ 6 → ⊥) → 6 < b
 above-6 b l h i j = omega arith
 
-returns : tie.Need-returns
+pub returns-in-0 : goal.returns-in-0
 unfolding unescape_handed meaning
-returns c = rw c.match.keys1
+returns-in-0 c = rw c.in-0.is
 
-returns-2 : tie.Need-returns-2
+pub returns-in-1 : goal.returns-in-1
 unfolding unescape_handed meaning
-returns-2 c = rw c.match.keys2
+returns-in-1 c = rw c.in-1.is
 
-returns-3 : tie.Need-returns-3
+pub returns-in-2 : goal.returns-in-2
 unfolding unescape_handed meaning
-returns-3 c = rw c.match.keys3
+returns-in-2 c = rw c.in-2.is
 
-returns-4 : tie.Need-returns-4
+pub returns-in-3 : goal.returns-in-3
 unfolding unescape_handed meaning
-returns-4 c = rw c.match.keys4
+returns-in-3 c = rw c.in-3.is
 
-returns-5 : tie.Need-returns-5
+pub returns-in-4 : goal.returns-in-4
 unfolding unescape_handed meaning
-returns-5 c = rw c.match.keys5
+returns-in-4 c = rw c.in-4.is
 
-returns-6 : tie.Need-returns-6
+pub returns-in-5 : goal.returns-in-5
 unfolding unescape_handed meaning
-returns-6 c = rw c.match.keys6
+returns-in-5 c = rw c.in-5.is
 
-returns-7 : tie.Need-returns-7
+pub returns-in-6 : goal.returns-in-6
 unfolding unescape_handed meaning
-returns-7 c = rw c.match.keys7
+returns-in-6 c = rw c.in-6.is
 
-returns-8 : tie.Need-returns-8
-returns-8 c =
-    let b = c.before.args.code in
-    let n = c.match.rest in
+pub returns-in_default : goal.returns-in_default
+returns-in_default c =
+    let b = c.args.code in
+    let n = c.in_default.in_default-own.rest in
     let low : 3 < b = above-3 b n.0.0.0.0.0.0.1 n.0.0.0.0.0.1 n.0.0.0.0.1 n.0.0.0.1 in
     sym (unescape_handed-above b (above-6 b low n.0.0.1 n.0.1 n.1))
-
-pub unescaped-byte-spec : {M : Type 1} → statement M
-unescaped-byte-spec =
-    tie.close (tie.spec returns returns-2 returns-3 returns-4 returns-5 returns-6 returns-7 returns-8)
