@@ -7,8 +7,7 @@ use native.Mathlib.Omega.{arith}
 use lib.ListN.{length}
 use lib.Dec.{eqb, ltb}
 use Rattle.laws.specs.Bytes.{be16_at}
-use Rattle.laws.specs.Handed.{Handed, refused, value}
-use Rattle.address.specs.declared.Address.{Address}
+use Rattle.laws.specs.Handed.{refused, value}
 use Rattle.address.specs.declared.Address.TheVariants.{From, To}
 use Rattle.address.specs.Address.{address_of}
 use Rattle.layouts.specs.declared.Length.TheVariants.{Right, Wrong}

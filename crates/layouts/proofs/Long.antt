@@ -1,9 +1,9 @@
 -- The long address as the layout reads it. Assumes nothing.
-use mathlib.Core.Path.{◌≡◌, refl, sym, ◌∙◌, ap}
-use Prim.Native.Nat.{ℕ, ◌≤◌}
+use mathlib.Core.Path.{◌≡◌, refl}
+use Prim.Native.Nat.{ℕ}
 use mathlib.Core.List.{List, [], ◌∷◌}
 use native.Mathlib.Omega.{arith}
-use lib.ListN.{length, get_or, take}
+use lib.ListN.{length}
 use Rattle.layouts.specs.Layouts.{identify_response_length, identify_response_in, long_address}
 
 -- of a payload of the layout's length, the first eight bytes are the layout's long address

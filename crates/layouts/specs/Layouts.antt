@@ -1,5 +1,5 @@
 -- The payload layouts of fixed and of least length: what the bytes at each place are. Assumes nothing.
-use Rattle.std.specs.Prelude.{ℕ, Bool, true, false, cond, List, [], ◌∷◌, length, get_or, take, drop, eqb, ltb}
+use Rattle.std.specs.Prelude.{ℕ, cond, List, [], ◌∷◌, length, get_or, take, drop, eqb, ltb}
 use Rattle.laws.specs.Bytes.{be16_at}
 use Rattle.laws.specs.Handed.{Handed, value}
 use Rattle.laws.specs.Numbers.{refused_as, wrong_length, names_from}
