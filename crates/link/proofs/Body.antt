@@ -12,7 +12,7 @@ use Rattle.laws.proofs.Bytes.{of16-be16, bytes-append, bytes-be16, bytes-le16}
 use Rattle.address.specs.Address.{id_limit, gateway_of, number_of}
 use Rattle.address.proofs.Laws.{address_of-number_of}
 use Rattle.escaping.proofs.Lengths.{length-escaped-le}
-use Rattle.link.specs.Wire.{Frame, start_of, checked_of, body_of, frame_of, encoded_of, body_limit, payload_limit}
+use Rattle.link.specs.Wire.{Frame, start_of, checked_of, body_of, frame_of, encoded_of, payload_limit}
 use Rattle.link.proofs.Writes.{length-wire_of}
 
 length-start_of-le : (n : ℕ) → length (start_of n) ≤ 5

@@ -1,5 +1,5 @@
 -- A frame and its form on the wire, over any check. Assumes nothing.
-use Rattle.std.specs.Prelude.{ℕ, ◌-◌, Bool, true, false, cond, List, [], ◌∷◌, ◌++◌, length, take, drop, ltb}
+use Rattle.std.specs.Prelude.{ℕ, ◌-◌, cond, List, [], ◌∷◌, ◌++◌, length, take, drop, ltb}
 use Rattle.laws.specs.Bytes.{be16, le16, be16_at}
 use Rattle.escaping.specs.Escapes.{escaped}
 use Rattle.address.specs.Address.{number_of, address_of}
