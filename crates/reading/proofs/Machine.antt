@@ -1,7 +1,7 @@
 -- A machine that takes a byte at a time and gives a list of events: over a run these are the events of the pieces of the reading,
 -- in order (`ledger`), and it comes to rest where they leave off (`rests`). A device of the proofs: the receiver is compared with it. Assumes nothing.
 use mathlib.Core.Path.{◌≡◌, refl, sym, ◌∙◌, ap}
-use Prim.Native.Nat.{ℕ, ◌+◌}
+use Prim.Native.Nat.{ℕ}
 use mathlib.Core.Bool.{Bool, true, false, cond}
 use mathlib.Core.List.{List, [], ◌∷◌, ◌++◌, append_assoc, append-nil, map-append}
 use mathlib.Core.Option.{Option, none, some}
