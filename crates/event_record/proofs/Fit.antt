@@ -1,8 +1,8 @@
 -- Which events have a sound record: what the transport step's events cite, so that none of them is refused by 41. Assumes nothing.
-use mathlib.Core.Path.{◌≡◌, refl, sym, ◌∙◌}
+use mathlib.Core.Path.{◌≡◌, refl, ◌∙◌}
 use Prim.Native.Nat.{ℕ, ◌+◌, ◌≤◌, ◌<◌}
 use mathlib.Core.Bool.{Bool, true, false}
-use mathlib.Core.List.{List, [], ◌∷◌}
+use mathlib.Core.List.{List, []}
 use native.Mathlib.Omega.{arith}
 use lib.ListN.{length, get_or}
 use borrow.Author.Tests.{eq-eqb}
@@ -10,7 +10,7 @@ use Rattle.utf8.specs.Utf8.{Text}
 use Rattle.utf8.proofs.Laws.{is_text-text}
 use Rattle.network.specs.Split.{packet_size, Whole}
 use Rattle.sound_record.specs.Record.{written, sound_at}
-use Rattle.event_record.specs.Event.{Event, enumeration_started, identity, version_text, enumeration_ended, slot_captured, slot_counter, packet, command, kind_of, body_of, record_of}
+use Rattle.event_record.specs.Event.{Event, enumeration_started, identity, version_text, enumeration_ended, slot_captured, slot_counter, packet, command, body_of, record_of}
 use Rattle.sound_record.proofs.Soundness.{sound_body-1, sound_body-2, sound_body-3, sound_body-4, sound_body-5, sound_body-6, sound_body-7}
 use Rattle.event_record.proofs.Written.{sound_at-framed}
 use Rattle.event_record.proofs.Commands.{command-sound}

@@ -1,23 +1,23 @@
 -- A record says the event that it was made of; what an encoder writes is sound and stands at the start of the buffer; an answer is told
 -- apart from any other by what it hands back. Assumes nothing.
 use mathlib.Core.Path.{◌≡◌, refl, sym, ◌∙◌, ap}
-use mathlib.Core.Option.{Option, none, some}
-use Prim.Native.Nat.{ℕ, suc, ◌+◌, ◌*◌, ◌/◌, ◌%◌, ◌≤◌, ◌<◌}
+use mathlib.Core.Option.{some}
+use Prim.Native.Nat.{ℕ, suc, ◌+◌, ◌≤◌}
 use mathlib.Core.Bool.{Bool, true, false, cond, not}
 use mathlib.Core.List.{List, [], ◌∷◌, ◌++◌}
 use native.Mathlib.Omega.{arith}
 use native.Mathlib.Nat.{div-add-mod'}
-use lib.ListN.{length, get_or, take, drop}
+use lib.ListN.{length, get_or, drop}
 use lib.Seq.{take-append_seam, drop-append-add, get_or-append_seam}
 use lib.Dec.{ltb}
 use borrow.Author.Tests.{ltb-false}
-use Rattle.laws.specs.Bytes.{be16, be16_at, laid_over, laid_if}
+use Rattle.laws.specs.Bytes.{laid_if}
 use Rattle.laws.specs.Handed.{Handed, refused, value}
 use Rattle.sound_record.specs.Record.{written, sound_at, stands_at}
 use Rattle.event_record.specs.Layout.{extra, framed}
 use Rattle.event_record.specs.Event.{Event, enumeration_started, identity, version_text, enumeration_ended, slot_captured, slot_counter, packet, command, kind_of, body_of, record_of, event_of, gateway_in, says_of}
 use Rattle.event_record.specs.Handed.{handed, framed_handed, record_handed, record_bytes}
-use Rattle.sound_record.specs.declared.Stands.TheVariants.{Record, Nothing}
+use Rattle.sound_record.specs.declared.Stands.TheVariants.{Record}
 use Rattle.event_record.specs.declared.Recorded.{Recorded}
 use Rattle.event_record.specs.declared.Recorded.TheVariants.{Written, InvalidGateway, Unsound, NoRoom}
 use Rattle.sound_record.proofs.Places.{stands-within}

@@ -1,16 +1,16 @@
 -- What is written: the exact length of a record, that it is sound exactly if its body is, and the answers of the encoders.
 -- Assumes nothing.
 use mathlib.Core.Path.{◌≡◌, refl, sym, ◌∙◌, ap}
-use Prim.Native.Nat.{ℕ, ◌+◌, ◌/◌, ◌%◌, ◌≤◌, ◌<◌}
+use Prim.Native.Nat.{ℕ, ◌+◌, ◌≤◌, ◌<◌}
 use mathlib.Core.Bool.{Bool, true, false, cond}
-use mathlib.Core.List.{List, [], ◌∷◌, ◌++◌, append_assoc}
+use mathlib.Core.List.{List, [], ◌++◌}
 use native.Mathlib.Omega.{arith}
 use native.Mathlib.Nat.{div-add-mod'}
-use lib.ListN.{length, get_or, take, drop, length-append}
+use lib.ListN.{length, drop, length-append}
 use lib.Seq.{drop_at}
 use lib.Dec.{leb, eqb}
 use borrow.Author.Tests.{leb-true, lt-ltb, le-ltb}
-use Rattle.laws.specs.Bytes.{be16, be16_at, laid_over, laid_if}
+use Rattle.laws.specs.Bytes.{be16, laid_over, laid_if}
 use Rattle.words.specs.Words.{copied_in}
 use Rattle.words.proofs.Laws.{copied_in-laid_over}
 use Rattle.sound_record.specs.Record.{written, between, body_start, body_limit, is_body, sound_body, all_below, sound_at}

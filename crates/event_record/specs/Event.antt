@@ -1,5 +1,5 @@
 -- What an event record says, and the record of an event. Assumes nothing.
-use Rattle.std.specs.Prelude.{ℕ, ◌+◌, Bool, true, false, cond, List, [], ◌∷◌, ◌++◌, length, get_or, take, drop, eqb}
+use Rattle.std.specs.Prelude.{ℕ, ◌+◌, Bool, cond, List, [], ◌∷◌, ◌++◌, length, get_or, take, drop, eqb}
 use Rattle.std.proofs.Math.Option.{Option, none, some}
 use Rattle.laws.specs.Bytes.{be16, be16_at}
 use Rattle.sound_record.specs.Record.{kind_at, gateway_at, body_start, request_width, request_length}

@@ -1,13 +1,12 @@
 -- Laws of a log: it is a list of sound records in one way, and a reader finds just these, up to its end. Assumes nothing.
-use mathlib.Core.Path.{◌≡◌, refl, sym, ◌∙◌, ap}
-use Prim.Native.Nat.{ℕ, zero, suc, ◌+◌, ◌≤◌, ◌<◌}
-use mathlib.Core.Bool.{Bool, true, false, cond, ◌&&◌}
+use mathlib.Core.Path.{◌≡◌, refl, sym, ◌∙◌, ap, subst}
+use Prim.Native.Nat.{ℕ, zero, suc, ◌+◌, ◌<◌}
+use mathlib.Core.Bool.{Bool, true, false, cond}
 use mathlib.Core.List.{List, [], ◌∷◌, ◌++◌, append_assoc, append-nil}
 use native.Mathlib.Nat.{le_of_suc-le-suc}
 use native.Mathlib.Omega.{arith}
 use lib.ListN.{length, get_or, drop, length-append}
 use lib.Seq.{take-append_seam, drop-append_seam}
-use Rattle.laws.specs.Bytes.{be16_at}
 use Rattle.sound_record.specs.Record.{written, known, sound_at, sound_in}
 use Rattle.sound_record.specs.Log.{joined, all_sound-true, Log, Here, Finds}
 use Rattle.sound_record.proofs.Soundness.{both}
@@ -83,8 +82,11 @@ module _ (v : ℕ) where
   finds-from : (p : List ℕ) (rs : List (List ℕ)) → all_sound-true (sound_at v) rs ≡ true → Finds v (p ++ joined rs) (length p) rs
   finds-from p [] a = ap length (sym (append-nil p))
   finds-from p (r ∷ rs) a =
-      let h = both (sound_at v r) (all_sound-true (sound_at v) rs) a in
-      (here p r (joined rs) h.0, rw (← append_assoc p r (joined rs), ← length-append p r) (finds-from (p ++ r) rs h.1))
+      let h = both (sound_at v r) (all_sound-true (sound_at v) rs) a in (
+        here p r (joined rs) h.0,
+        subst (λ (l : List ℕ). Finds v l (length p + length r) rs) (append_assoc p r (joined rs))
+            (subst (λ (n : ℕ). Finds v ((p ++ r) ++ joined rs) n rs) (length-append p r) (finds-from (p ++ r) rs h.1)),
+      )
 
   pub log-finds : (rs : List (List ℕ)) → all_sound-true (sound_at v) rs ≡ true → Finds v (joined rs) 0 rs
   log-finds rs a = finds-from [] rs a

@@ -3,13 +3,12 @@
 use mathlib.Core.Path.{◌≡◌, refl, sym, ◌∙◌, ap}
 use Prim.Native.Nat.{ℕ, ◌+◌, ◌-◌, ◌≤◌, ◌<◌}
 use mathlib.Core.Bool.{Bool, true, false, cond}
-use mathlib.Core.List.{List, [], ◌∷◌, ◌++◌}
+use mathlib.Core.List.{List, ◌++◌}
 use native.Mathlib.Omega.{arith}
-use lib.ListN.{length, get_or, take, drop, length-take, length-drop, take-append-drop, get_or-append}
+use lib.ListN.{length, take, drop, length-take, length-drop, take-append-drop, get_or-append}
 use lib.Seq.{get_or-take, get_or-drop, length-take-le, take-append_seam, drop-append_seam}
 use Rattle.laws.specs.Bytes.{be16_at}
 use Rattle.sound_record.specs.Record.{body_start, sound_at, record_at, stands_at}
-use Rattle.sound_record.specs.declared.Stands.{Stands}
 use Rattle.sound_record.specs.declared.Stands.TheVariants.{Record, Nothing}
 use Rattle.sound_record.proofs.Soundness.{body_start-least, sound-parts, not_sound}
 
