@@ -1,14 +1,11 @@
 -- What an answer hands out: no two answers are alike, and a sound body's frame is the one that its bytes say. Assumes nothing.
-use Rattle.std.proofs.Common.{◌≡◌, ℕ, ◌+◌, ◌-◌, ◌<◌, ◌≤◌, Bool, true, false, cond, ltb, List, [], ◌∷◌, ◌++◌, length, take, drop, sym, refl, ap, ◌∙◌, ap₂, le_refl, le_of_lt, arith, length-drop, drop_of_length-le, length-take-le, take_all, take-take, take-add, drop_at, ltb-false, ltb-true, le-ltb, lt-ltb}
+use Rattle.std.proofs.Common.{◌≡◌, ℕ, ◌+◌, ◌-◌, ◌<◌, ◌≤◌, List, [], ◌∷◌, length, take, drop, sym, refl, ap, ◌∙◌, le_refl, le_of_lt, arith, length-drop, drop_of_length-le, length-take-le, take_all, take-take, take-add, drop_at}
 use lib.Seq.{take-nil}
 use Rattle.laws.specs.Bytes.{be16_at}
-use Rattle.address.specs.Address.{number_of, address_of}
+use Rattle.address.specs.Address.{address_of}
 use Rattle.address.specs.declared.Address.{Address}
-use Rattle.address.specs.declared.Address.TheVariants.{From, To}
-use Rattle.address.proofs.Laws.{number_of-address_of}
 use Rattle.link.specs.Wire.{frame_of}
 use Rattle.link.specs.declared.«Type».{«Type»}
-use Rattle.link_receive.specs.declared.Tally.TheVariants as tally
 use Rattle.link_receive.specs.declared.Parsed.{Parsed}
 use Rattle.link_receive.specs.declared.Parsed.TheVariants.{Sound, Dropped}
 use Rattle.link_receive.specs.declared.Answer.{Answer}

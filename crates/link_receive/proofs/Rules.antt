@@ -13,8 +13,8 @@ use Rattle.link_receive.specs.declared.Parsed.TheVariants.{Sound, Dropped}
 use Rattle.link_receive.specs.declared.Receiver.{Receiver}
 use Rattle.link_receive.specs.declared.Stepped.{Stepped}
 use Rattle.link_receive.specs.Tally.{counter_of, raise, zeros}
-use Rattle.link_receive.specs.Numbered.{state_at, tallies_at, receiver_at}
-use Rattle.link_receive.specs.Step.{room, fresh_of, made_of, rules_of, too_long, turn_of, parsed_of, counted_of, closed_of, moved_of, refused_of, quiet, step_of, reset_of}
+use Rattle.link_receive.specs.Numbered.{tallies_at, receiver_at}
+use Rattle.link_receive.specs.Step.{room, fresh_of, made_of, rules_of, too_long, turn_of, parsed_of, counted_of, closed_of, moved_of, refused_of, step_of, reset_of}
 
 -- a fresh receiver reads by 01's rules
 pub rules_of-fresh : rules_of fresh_of ≡ present

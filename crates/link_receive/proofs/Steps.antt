@@ -3,9 +3,7 @@ use Rattle.std.proofs.Common.{◌≡◌, ℕ, ◌<◌, ◌≤◌, Bool, true, fa
 use Rattle.reading.specs.Counts.{Verdict, runt, checksum, sound, verdict}
 use Rattle.address.specs.declared.Address.{Address}
 use Rattle.link.specs.declared.«Type».{«Type»}
-use Rattle.link_receive.specs.declared.Tally.TheVariants as tally
-use Rattle.link_receive.specs.declared.Parsed.{Parsed}
-use Rattle.link_receive.specs.declared.Parsed.TheVariants.{Sound, Dropped}
+use Rattle.link_receive.specs.declared.Parsed.TheVariants.{Sound}
 use Rattle.link_receive.specs.declared.Move.{Move}
 use Rattle.link_receive.specs.declared.State.{State}
 use Rattle.link_receive.specs.declared.Tallies.{Tallies}

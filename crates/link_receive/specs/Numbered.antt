@@ -1,5 +1,5 @@
 -- A receiver as ten numbers and its body: the state's number, the length, and the tallies in the ledger's order. Assumes nothing.
-use Rattle.std.specs.Prelude.{ℕ, cond, List, [], ◌∷◌, replicate, ◌==◌, slice_index}
+use Rattle.std.specs.Prelude.{ℕ, cond, List, ◌∷◌, replicate, ◌==◌, slice_index}
 use Rattle.laws.specs.Numbers.{over_limit}
 use Rattle.link_receive.specs.declared.State.{State}
 use Rattle.link_receive.specs.declared.State.TheVariants.{Idle, Noise, StartOfFrame, Frame, FrameEscape, Giant, GiantEscape}

@@ -1,5 +1,5 @@
 -- The eight tallies: one of them is raised at a time, and wraps. Assumes nothing.
-use Rattle.std.specs.Prelude.{ℕ, ◌+◌, Bool, true, false, cond, List, [], ◌∷◌}
+use Rattle.std.specs.Prelude.{ℕ, cond, List, [], ◌∷◌}
 use Rattle.laws.specs.Wrap.{raised}
 use Rattle.reading.specs.Counters.{Counter, same}
 use Rattle.reading.specs.Counters as k
