@@ -1,5 +1,5 @@
 -- What a command request and a command response do to the arrays that a function is lent. Assumes nothing.
-use Rattle.std.specs.Prelude.{ℕ, suc, ◌*◌, Bool, false, cond, List, length, get_or, set, drop, eqb, ltb}
+use Rattle.std.specs.Prelude.{ℕ, suc, ◌*◌, Bool, false, cond, List, length, get_or, set, eqb, ltb}
 use Rattle.std.proofs.Math.Seq.{paste}
 use Rattle.layouts.specs.Layouts.{command_request_length, command_response_length, request_type, request_sequence, request_data, response_type, response_sequence}
 use Rattle.tables.specs.Keys.{first_of, seat_of}
