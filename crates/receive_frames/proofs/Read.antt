@@ -1,7 +1,6 @@
 -- What is read of a receive response: its packet area starts within the payload. Assumes nothing.
-use mathlib.Core.Path.{◌≡◌, refl}
+use mathlib.Core.Path.{◌≡◌}
 use Prim.Native.Nat.{ℕ, ◌≤◌}
-use mathlib.Core.Bool.{Bool, true, false, cond}
 use mathlib.Core.List.{List}
 use native.Mathlib.Omega.{arith}
 use lib.ListN.{length}
@@ -9,7 +8,6 @@ use lib.Dec.{ltb}
 use borrow.Author.Tests.{ltb-false}
 use Rattle.laws.specs.Bytes.{be16_at}
 use Rattle.transport.specs.declared.ReceiveResponse.{ReceiveResponse}
-use Rattle.transport.specs.declared.ReceiveRead.{ReceiveRead}
 use Rattle.transport.specs.declared.ReceiveRead.TheVariants.{Response, TooShort, UnknownStatusType}
 use Rattle.transport.specs.Status.{accepted_of, needed_of}
 use Rattle.transport.specs.Response.{receive_read_of, response_in}
