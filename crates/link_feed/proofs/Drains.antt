@@ -1,6 +1,5 @@
 -- The drained run: cuts make no difference, and a feeding, then the run of what it left, is the run; over any check. Assumes nothing.
-use Rattle.std.proofs.Common.{◌≡◌, ℕ, zero, suc, ◌+◌, ◌-◌, ◌<◌, ◌≤◌, Bool, true, false, cond, ltb, List, [], ◌∷◌, ◌++◌, length, get_or, take, drop, set, sym, refl, ap, ◌∙◌, append_assoc, append-nil, not-suc-le-zero, arith, length-append, length-drop, length-set, take_all, drop-drop, ltb-false, ltb-true, le-ltb, lt-ltb}
-use Rattle.link.specs.Wire as wire
+use Rattle.std.proofs.Common.{◌≡◌, ℕ, suc, ◌+◌, ◌<◌, ◌≤◌, Bool, true, false, cond, List, [], ◌∷◌, ◌++◌, length, take, drop, set, refl, ap, ◌∙◌, append_assoc, arith, length-set, drop-drop, ltb-false, ltb-true, le-ltb}
 use Rattle.link_receive.specs.declared.State.TheVariants as state
 use Rattle.link_receive.specs.declared.Move.{Move}
 use Rattle.link_receive.specs.declared.Move.TheVariants.{To, Push, Count, Break, Close}
@@ -11,9 +10,8 @@ use Rattle.link_receive.specs.declared.Answer.TheVariants.{Nothing, Frame, Refus
 use Rattle.link_receive.specs.declared.Receiver.{Receiver}
 use Rattle.link_receive.specs.declared.Stepped.{Stepped}
 use Rattle.link_feed.specs.declared.Fed.{Fed}
-use Rattle.link_receive.specs.Frames.{handed_out}
 use Rattle.link_receive.specs.Step.{rules_of, too_long, Within, turn_of, closed_of, parsed_of, moved_of, refused_of, quiet, step_of}
-use Rattle.link_feed.specs.Feed.{stopped, fed_on, feed_from, feed_of}
+use Rattle.link_feed.specs.Feed.{fed_on, feed_from, feed_of}
 use Rattle.link_feed.specs.Drain.{frames_fed, drain_of, frames_of, extend_of}
 use Rattle.link_receive.proofs.Rules.{rules_of-made, rules_of-step}
 use Rattle.link_receive.proofs.Turns.{turn_of-push}

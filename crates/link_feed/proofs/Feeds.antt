@@ -1,5 +1,5 @@
 -- Feeding from a place of a slice; over any check. Assumes nothing.
-use Rattle.std.proofs.Common.{◌≡◌, ℕ, ◌+◌, ◌<◌, ◌≤◌, List, length, get_or, drop, refl, add-one, drop_of_length-le, drop-cons, le-ltb, lt-ltb}
+use Rattle.std.proofs.Common.{◌≡◌, ℕ, ◌+◌, ◌<◌, ◌≤◌, List, length, get_or, drop, add-one, drop_of_length-le, drop-cons, le-ltb, lt-ltb}
 use Rattle.address.specs.declared.Address.{Address}
 use Rattle.link.specs.declared.«Type».{«Type»}
 use Rattle.link_receive.specs.declared.Answer.TheVariants.{Nothing, Frame, Refused}

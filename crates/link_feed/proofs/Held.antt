@@ -1,28 +1,23 @@
 -- The units of an open frame, many at once: feeding on from behind them is feeding from here; over any check, and over the rules of any receiver o.
 -- Assumes nothing.
-use Rattle.std.proofs.Common.{◌≡◌, ℕ, zero, suc, ◌+◌, ◌-◌, ◌<◌, ◌≤◌, Bool, true, false, cond, not, ◌&&◌, ◌||◌, eqb, ltb, List, length, get_or, take, drop, set, sym, refl, ap, ◌∙◌, subst, ap₂, add-zero, le_of_lt, add-suc, add-one, arith, length-set, drop-cons, ltb-false, lt-ltb, eq-eqb, ne_eqb, eqb-true}
+use Rattle.std.proofs.Common.{◌≡◌, ℕ, zero, suc, ◌+◌, ◌-◌, ◌<◌, ◌≤◌, true, eqb, ltb, List, length, get_or, take, drop, set, sym, refl, ap, ◌∙◌, ap₂, add-zero, le_of_lt, arith, length-set, drop-cons, ltb-false, lt-ltb}
 use lib.Seq.{paste}
 use borrow.Author.Tests.{not-true}
 use Rattle.byte_runs.specs.Runs.{is_of, lead, All, laid}
-use Rattle.byte_runs.proofs.Laws.{run_inside, run-all, copy-room, copy-inside, copy-all, length-laid, laid-paste}
+use Rattle.byte_runs.proofs.Laws.{copy-room, copy-inside, copy-all, length-laid, laid-paste}
 use Rattle.byte_runs.specs.declared.Sort.TheVariants as sort
-use Rattle.laws.proofs.Cases.{by, never}
+use Rattle.laws.proofs.Cases.{by}
 use Rattle.reading.specs.Grammar.{Rules}
 use Rattle.link_receive.specs.declared.Receiver.{Receiver}
-use Rattle.link_receive.specs.declared.State.{State}
-use Rattle.link_receive.specs.declared.State.TheVariants.{Idle, Noise, StartOfFrame, Frame, FrameEscape, Giant, GiantEscape}
-use Rattle.link_receive.specs.declared.Tally.TheVariants as tally
+use Rattle.link_receive.specs.declared.State.TheVariants.{Frame, FrameEscape}
 use Rattle.link_receive.specs.declared.Tallies.{Tallies}
-use Rattle.link_receive.specs.declared.Move.{Move}
-use Rattle.link_receive.specs.declared.Move.TheVariants.{To, Push, Count}
-use Rattle.link_receive.specs.Step.{room, made_of, rules_of, outside_of, turn_of}
+use Rattle.link_receive.specs.declared.Move.TheVariants.{To, Push}
+use Rattle.link_receive.specs.Step.{room, made_of, rules_of, turn_of}
 use Rattle.link_feed.specs.Feed.{feed_from}
 use Rattle.link_feed.specs.declared.Units.{Units}
-use Rattle.link_feed.specs.Advance.{half_at, Ahead, Skipped}
-use Rattle.link_receive.proofs.Turns.{tail_of-other}
+use Rattle.link_feed.specs.Advance.{Ahead}
 use Rattle.link_receive.proofs.Steps.{step_of-made}
 use Rattle.link_feed.proofs.Feeds.{feed_from-more}
-use Rattle.laws.specs.Handed.{refused, value}
 use Rattle.escaping.specs.Escapes.{meaning}
 use Rattle.escaping.specs.Handed.{handed_byte, unescape_handed}
 use Rattle.escaping.specs.declared.Unescaped.{Unescaped}

@@ -1,20 +1,14 @@
 -- A host's run, whatever its calls, ends in the drained run, with its frames; and there is one. Over any check. Assumes nothing.
-use Rattle.std.proofs.Common.{◌≡◌, ℕ, ◌+◌, ◌<◌, ◌≤◌, Bool, true, false, cond, ltb, List, [], ◌∷◌, ◌++◌, length, drop, sym, refl, ap, ◌∙◌, append_assoc, append-nil, arith, drop_of_length-le, drop-drop, ltb-false, ltb-true, le-ltb, lt-ltb}
+use Rattle.std.proofs.Common.{◌≡◌, ℕ, ◌+◌, Bool, true, ltb, List, [], ◌∷◌, ◌++◌, length, drop, sym, refl, ap, ◌∙◌, append_assoc, arith, drop_of_length-le, drop-drop, ltb-false, ltb-true}
 use Rattle.laws.proofs.Cases.{by, never}
 use Rattle.link.specs.Wire.{Frame}
 use Rattle.link_receive.specs.declared.Receiver.{Receiver}
-use Rattle.link_receive.specs.declared.Stepped.{Stepped}
-use Rattle.link_receive.specs.declared.Tallies.{Tallies}
 use Rattle.link_receive.specs.Frames.{handed_out}
 use Rattle.link_receive.specs.Numbered.{receiver_at}
-use Rattle.link_receive.specs.Step.{rules_of, too_long, quiet, step_of}
-use Rattle.link_feed.specs.declared.Fed.{Fed}
-use Rattle.link_feed.specs.declared.FedIn.{FedIn}
-use Rattle.link_feed.specs.declared.Reached.{Reached}
-use Rattle.link_feed.specs.Feed.{stopped, feed_of}
+use Rattle.link_receive.specs.Step.{rules_of, too_long, step_of}
+use Rattle.link_feed.specs.Feed.{feed_of}
 use Rattle.link_feed.specs.Drain.{frames_fed, drain_of, frames_of, extend_of}
 use Rattle.link_feed.specs.Lent.{start_of}
-use Rattle.link_feed.specs.Tallies.{lent_to, Pushed, FedWith}
 use Rattle.link_feed.specs.Hosts.{Call, pushes, feeds, absorbs, feeds_in, feeds_from, pushes_lent, feeds_lent, hands_out, Hosted, used_up, calls, handing}
 use Rattle.link_feed.proofs.Lent.{fed-back}
 use Rattle.link_feed.proofs.Drains.{rules_of-drain, drain_of-append, frames_of-append, drain_of-over, drain_of-feed, frames_of-feed}

@@ -4,8 +4,6 @@ use Rattle.laws.proofs.Cases.{by}
 use Rattle.laws.specs.Wrap.{raised}
 use Rattle.link_feed.specs.declared.Fed.{Fed}
 use Rattle.link_receive.specs.declared.Receiver.{Receiver}
-use Rattle.link_receive.specs.declared.Answer.{Answer}
-use Rattle.link_receive.specs.declared.Answer.TheVariants.{Nothing, Frame, Refused}
 use Rattle.link_receive.specs.declared.Tallies.{Tallies}
 use Rattle.link_receive.specs.declared.Tally.{Tally}
 use Rattle.reading.specs.Counters as k

@@ -4,9 +4,7 @@ use Rattle.laws.proofs.Cases.{never}
 use Rattle.escaping.specs.Escapes.{opener, neither, meaning}
 use Rattle.reading.specs.Counters as k
 use Rattle.reading.specs.Grammar.{Rules}
-use Rattle.link_receive.specs.declared.State.{State}
-use Rattle.link_receive.specs.declared.State.TheVariants.{Idle, Noise, Frame, FrameEscape, Giant}
-use Rattle.link_receive.specs.declared.Tally.TheVariants as tally
+use Rattle.link_receive.specs.declared.State.TheVariants.{Noise, Frame, FrameEscape, Giant}
 use Rattle.link_receive.specs.declared.Tallies.{Tallies}
 use Rattle.link_receive.specs.declared.Answer.{Answer}
 use Rattle.link_receive.specs.declared.Answer.TheVariants as answer

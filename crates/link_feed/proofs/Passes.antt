@@ -1,10 +1,9 @@
 -- Bytes outside a frame, many at once: feeding on from behind them, with the noises counted that began among them, is feeding from here; over any
 -- check, and over the rules of any receiver o.
 -- Assumes nothing.
-use Rattle.std.proofs.Common.{◌≡◌, ℕ, zero, suc, ◌+◌, ◌-◌, ◌<◌, ◌≤◌, Bool, true, false, cond, not, ◌&&◌, ◌||◌, eqb, List, [], ◌∷◌, length, get_or, take, drop, sym, refl, ap, ◌∙◌, subst, ap₂, suc-le-suc, le_refl, add-zero, add-suc, zero-lt-suc, add-one, arith, drop-cons, ne_eqb, eqb-true}
-use borrow.Author.Tests.{not-true}
-use Rattle.laws.proofs.Cases.{by, never}
-use Rattle.byte_runs.specs.Runs.{idle, is_of, lead, All}
+use Rattle.std.proofs.Common.{◌≡◌, ℕ, zero, suc, ◌+◌, ◌-◌, ◌<◌, ◌≤◌, Bool, true, false, cond, not, ◌||◌, eqb, List, length, get_or, take, drop, sym, refl, ap, ◌∙◌, subst, ap₂, suc-le-suc, le_refl, add-zero, add-suc, zero-lt-suc, add-one, arith, drop-cons}
+use Rattle.laws.proofs.Cases.{never}
+use Rattle.byte_runs.specs.Runs.{is_of, lead, All}
 use Rattle.byte_runs.specs.Noises.{noisy_after, noises_of, Noised}
 use Rattle.byte_runs.specs.declared.Heard.{Heard}
 use Rattle.byte_runs.specs.declared.Sort.TheVariants as sort
@@ -24,7 +23,6 @@ use Rattle.link_receive.specs.Step.{made_of, rules_of, turn_of, quiet, moved_of}
 use Rattle.link_receive.proofs.Turns.{pair_of-other}
 use Rattle.link_receive.proofs.Steps.{step_of-made}
 use Rattle.link_feed.specs.Feed.{feed_from}
-use Rattle.link_feed.specs.declared.Course.{Course}
 use Rattle.link_feed.specs.Advance.{line_of, is_outside, is_noise, begins_of, noised, held_after, Stands, Passed, Led}
 use Rattle.link_feed.proofs.Feeds.{feed_from-more}
 use Rattle.link_feed.proofs.Skips.{turn_of-idle, feed_from-stays}

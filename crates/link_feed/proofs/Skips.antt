@@ -1,25 +1,22 @@
 -- Many bytes at once: where each of them leaves the state as it is, feeding on from behind them is feeding from here; over any check, and over the rules
 -- of any receiver o.
 -- Assumes nothing.
-use Rattle.std.proofs.Common.{◌≡◌, ℕ, zero, suc, ◌+◌, ◌-◌, ◌<◌, ◌≤◌, Bool, true, false, cond, not, ◌&&◌, ◌||◌, eqb, ltb, List, length, get_or, take, drop, set, sym, refl, ap, ◌∙◌, subst, ap₂, add-zero, le_of_lt, add-suc, add-one, arith, length-set, lt-ltb, eq-eqb, ne_eqb, eqb-true}
-use lib.Seq.{paste}
+use Rattle.std.proofs.Common.{◌≡◌, ℕ, zero, suc, ◌+◌, ◌-◌, ◌<◌, ◌≤◌, Bool, true, false, cond, not, ◌&&◌, ◌||◌, eqb, List, length, get_or, drop, sym, refl, ap, ◌∙◌, subst, add-zero, add-suc, add-one, arith, eq-eqb, ne_eqb, eqb-true}
 use borrow.Author.Tests.{not-true}
-use Rattle.byte_runs.specs.Runs.{is_of, lead, All, laid}
-use Rattle.byte_runs.proofs.Laws.{run_inside, run-all, run-stops, copy-room, copy-inside, copy-all, length-laid, laid-paste}
+use Rattle.byte_runs.specs.Runs.{is_of, lead, All}
+use Rattle.byte_runs.proofs.Laws.{run_inside, run-all, run-stops}
 use Rattle.byte_runs.specs.declared.Sort.TheVariants as sort
 use Rattle.laws.proofs.Cases.{by, never}
 use Rattle.reading.specs.Grammar.{Rules}
 use Rattle.link_receive.specs.declared.Receiver.{Receiver}
 use Rattle.link_receive.specs.declared.State.{State}
-use Rattle.link_receive.specs.declared.State.TheVariants.{Idle, Noise, StartOfFrame, Frame, FrameEscape, Giant, GiantEscape}
+use Rattle.link_receive.specs.declared.State.TheVariants.{Idle, Noise, Giant, GiantEscape}
 use Rattle.link_receive.specs.declared.Tally.TheVariants as tally
 use Rattle.link_receive.specs.declared.Tallies.{Tallies}
-use Rattle.link_receive.specs.declared.Move.{Move}
-use Rattle.link_receive.specs.declared.Move.TheVariants.{To, Push, Count}
-use Rattle.link_receive.specs.Step.{room, made_of, rules_of, outside_of, turn_of}
+use Rattle.link_receive.specs.declared.Move.TheVariants.{To, Count}
+use Rattle.link_receive.specs.Step.{made_of, rules_of, outside_of, turn_of}
 use Rattle.link_feed.specs.Feed.{feed_from}
-use Rattle.link_feed.specs.declared.Units.{Units}
-use Rattle.link_feed.specs.Advance.{half_at, Ahead, Skipped}
+use Rattle.link_feed.specs.Advance.{half_at, Skipped}
 use Rattle.link_receive.proofs.Turns.{tail_of-other}
 use Rattle.link_receive.proofs.Steps.{step_of-made}
 use Rattle.link_feed.proofs.Feeds.{feed_from-more}

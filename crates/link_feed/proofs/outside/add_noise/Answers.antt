@@ -1,0 +1,8 @@
+-- `link_feed::outside::add_noise` adds to the number that is the noise's. Assumes nothing.
+use Rattle.link_feed.proofs.Lent.{tallies_at-noised}
+use Rattle.std.proofs.Common.{rules}
+use Rattle.link_feed.proofs.outside.add_noise.Goals as goal
+
+pub returns : goal.returns
+returns c = let a = c.args in
+    rw c.wrapping_add_u64.ensures.value (tallies_at-noised a.tallies.now a.count c.requires (search rules))

@@ -1,0 +1,14 @@
+-- `link_feed::outside::quiet` takes a run by words and some bytes one by one, and so on: each time feeding on from there, with the noises counted, is feeding from where
+-- it began. Assumes nothing.
+use Rattle.std.proofs.Common.{◌-◌, length}
+use Rattle.crc.specs.Crc.{crc_of}
+use Rattle.link_receive.specs.Step.{fresh_of}
+use Rattle.link_feed.specs.Advance.{Passed}
+use Rattle.link_feed.proofs.Passes.{heard}
+use Rattle.link_feed.proofs.outside.quiet.Given as goal
+
+abbrev pub invariant-loop-i : goal.invariant-loop-i
+invariant-loop-i l = Passed crc_of fresh_of l.s l.noisy0 l.i0 (heard l.noisy l.count l.i)
+
+abbrev pub decreases-loop-i : goal.decreases-loop-i
+decreases-loop-i l = length l.s - l.i

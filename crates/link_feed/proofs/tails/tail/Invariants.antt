@@ -1,0 +1,13 @@
+-- `link_feed::tails::tail` skips what does not end a tail, then 07 or 08 that ends no pair and some units more, and so on: each time feeding on from
+-- there is feeding from where it began. Assumes nothing.
+use Rattle.std.proofs.Common.{◌-◌, length}
+use Rattle.crc.specs.Crc.{crc_of}
+use Rattle.link_receive.specs.Step.{fresh_of}
+use Rattle.link_feed.specs.Advance.{Skipped}
+use Rattle.link_feed.proofs.tails.tail.Given as goal
+
+abbrev pub invariant-loop-i : goal.invariant-loop-i
+invariant-loop-i l = Skipped crc_of fresh_of l.s l.i0 l.i
+
+abbrev pub decreases-loop-i : goal.decreases-loop-i
+decreases-loop-i l = length l.s - l.i
