@@ -27,7 +27,6 @@ use Rattle.event_record.specs.Event as kind
 use Rattle.event_record.proofs.Written.{length-written}
 use Rattle.event_record.proofs.Commands.{length-command}
 use Rattle.event_record.proofs.Fit.{fits-started, fits-identity, fits-version, fits-ended, fits-captured, fits-counter, fits-command}
-use Rattle.answers.specs.Types
 use Rattle.transport_receiver.specs.State.{State, Frame, Command, command_in, state_of}
 use Rattle.transport_receiver.specs.Step.{Event, identity, event, step_of, is_over_limit, key_of, status_of}
 use Rattle.transport_receiver.specs.declared.Receiver.{Receiver}

@@ -6,13 +6,12 @@ use mathlib.Core.List.{List, [], ◌∷◌}
 use mathlib.Core.Option.{some}
 use native.Mathlib.Omega.{arith}
 use lib.ListN.{length, get_or, set, replicate, length-drop}
-use lib.Dec.{eqb, ltb}
+use lib.Dec.{ltb}
 use borrow.Author.Tests.{ltb-false}
 use Rattle.answers.specs.Stored.{kept_limit}
 use Rattle.laws.specs.Bytes.{Bytes}
 use Rattle.tables.specs.Places.{Place, free, held, holder, seat, value_in, places_from}
 use Rattle.sound_record.specs.Record.{written}
-use Rattle.answers.specs.Types
 use Rattle.transport_receiver.specs.State.{State, Frame, Command, state_of, fresh}
 use Rattle.transport_receiver.specs.Step.{Outcome, silent, event, Result, accepted, step_of, reset_of, is_over_limit, key_of, request_of, Input, frame, reset, event_of}
 use Rattle.transport_receiver.proofs.Cases.{accepted-cases, judged-cases}

@@ -4,7 +4,7 @@ use Rattle.std.proofs.Math.Option.{Option}
 use Rattle.transport_receiver.specs.Handed.{outcome_of}
 use Rattle.transport_receiver.specs.Lent.{request_payload}
 use Rattle.transport_receiver.specs.Step.{Event, event_of, Input, taken_of}
-use Rattle.transport_receiver.specs.State.{State, Frame}
+use Rattle.transport_receiver.specs.State.{State}
 use Rattle.answers.specs.declared.Answer.{Answer}
 use Rattle.answers.specs.declared.said.Said.{Said}
 use Rattle.answers.specs.Said.{said_of}

@@ -1,0 +1,11 @@
+-- `event_log::front` is the first bytes, or all. Assumes nothing.
+use mathlib.Core.Path.{sym}
+use native.Mathlib.Omega.{arith}
+use lib.Seq.{length-take-le, take_all}
+use Rattle.event_log.proofs.front.Goals as goal
+
+pub slice_bounds-result-end : goal.slice_bounds-result-end
+slice_bounds-result-end c = sym (length-take-le _ _ (omega arith))
+
+pub returns : goal.returns
+returns c = sym (take_all _ _ c.if-n-s.false)
