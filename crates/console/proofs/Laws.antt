@@ -1,12 +1,12 @@
 -- Laws of text that is put into a buffer. Assumes nothing.
-use Prim.Native.Nat.{ℕ, suc, ◌+◌, ◌/◌, ◌%◌, ◌≤◌, ◌<◌}
+use Prim.Native.Nat.{ℕ, ◌+◌, ◌/◌, ◌%◌, ◌≤◌, ◌<◌}
 use mathlib.Core.Path.{◌≡◌, refl, ap, sym, ◌∙◌}
 use mathlib.Core.List.{List, [], ◌∷◌, ◌++◌}
 use native.Mathlib.Numerals.{add-one}
 use lib.ListN.{length, drop, get_or, drop_of_length-le}
 use lib.Seq.{drop-cons}
 use Rattle.io.specs.Digits.{hex_digit_ascii}
-use Rattle.console.specs.Text.{Text, text, put_byte, put_bytes, hex_of, hexes_of}
+use Rattle.console.specs.Text.{Text, put_byte, put_bytes, hex_of, hexes_of}
 
 -- the bytes from a place on: the one at the place, then the others; `put_all` cites this
 pub put_bytes-cons : (t : Text) (s : List ℕ) (i : ℕ) → i < length s → put_bytes t (drop i s) ≡ put_bytes (put_byte t (get_or s i 0)) (drop (i + 1) s)

@@ -1,5 +1,5 @@
 // A program's words: options before or after at most one name of an input.
-use check::same;
+use std::env::{Env, FillError};
 
 // What the words ask for: the program's work, its help, or that its usage is told. `TooLong` is a word that no buffer holds.
 #[derive(Drop)]
@@ -38,10 +38,10 @@ fn word_of(word: &[u8], own: &[u8]) -> Word {
     if word.len() == 1 {
         return Word::Dash;
     }
-    if same(word, b"--help") {
+    if word == b"--help".as_slice() {
         return Word::Help;
     }
-    if same(word, own) {
+    if word == own {
         return Word::Own;
     }
     Word::Unknown
@@ -56,19 +56,18 @@ fn answer(asked: Asked) -> Words {
 }
 
 // The words of the program, read in order. `own` is the one option that it has beside `--help`; empty if it has none.
-pub fn read(own: &[u8]) -> Words {
+pub fn read(rt: &HostRuntime, own: &[u8]) -> Words {
     let mut space = io::buffer();
     let word: &mut [u8] = &mut space;
     let mut file = 0;
     let mut named = false;
     let mut chosen = false;
-    let count = os::arg_count();
-    let mut i = 1;
-    while i < count {
-        let n = os::arg(i, word);
-        if os::errno() != 0 {
-            return answer(Asked::TooLong);
-        }
+    for i in 1..usize::MAX {
+        let n = match rt.arg(i, word) {
+            Ok(n) => n,
+            Err(FillError::NotPresent) => break,
+            Err(FillError::TooLong) => return answer(Asked::TooLong),
+        };
         let w = word_of(&word[..n], own);
         match w {
             Word::Help => {
@@ -94,7 +93,6 @@ pub fn read(own: &[u8]) -> Words {
                 file = i;
             }
         }
-        i += 1;
     }
     Words {
         asked: Asked::Work,

@@ -2,56 +2,86 @@
 // A program lends its buffers, and keeps the loop over its blocks itself.
 #![tactic(auto)]
 
-ghost use Rattle.std.specs.Prelude.{◌≡◌, cond, ◌≤◌};
+ghost use Rattle.std.specs.Prelude.{◌≡◌, cond, ◌≤◌, length};
 ghost use Rattle.io.specs.Counts.{IsPrefixLen};
+ghost use Rattle.std.specs.Io.{ReadsAtMost};
 ghost use Rattle.console.specs.Room.{Roomy};
 
 use asked::Asked;
 use books::Ledger;
-use libc::{STDERR_FILENO, STDIN_FILENO, STDOUT_FILENO};
+use reason::reason_of;
+use std::env::Env;
+use std::fs::File;
+use std::io::{Error, ErrorKind, Print, Read, Result, Stdin};
 use text::{put, put_all};
 
 mod asked;
+mod reason;
 pub mod text;
+
+// The system's numbers of two errors: of a word that no buffer holds, and of a name that is no text, which std opens no file by.
+const NAME_TOO_LONG: i32 = 36;
+
+const ILLEGAL_BYTES: i32 = 84;
+
+// Where an input is read from: standard input, or a file that was opened.
+#[derive(Drop)]
+pub enum Source {
+    Standard(Stdin),
+    Opened(File),
+}
 
 // A program's input: whether there is one to work on, where it is read from, how many bytes its name has, and whether the program's own
 // option was given.
 #[derive(Drop)]
 pub struct Input {
     pub ready: bool,
-    pub fd: i32,
+    pub from: Source,
     pub len: usize,
     pub own: bool,
 }
 
-// What a read brought: so many bytes at the buffer's start. None of them: the input ended, or the read failed.
+// What a read brought: so many bytes at the buffer's start. None of them: the input ended, or the read failed, with that error.
 #[derive(Drop)]
 pub struct Block {
     pub len: usize,
-    pub failed: bool,
+    pub failed: Option<Error>,
 }
 
-// Where the text in an output buffer ends, and whether all that was written before went well.
+// Where the text in an output buffer ends, and whether all that was written before went well, or why not.
 #[derive(Drop)]
 pub struct Out {
     pub at: usize,
-    pub ok: bool,
+    pub ok: Result<()>,
 }
 
 // Says on standard error what failed, and why: the line of an error begins with the program's name.
-pub fn fail(program: &[u8], what: &[u8]) {
-    io::write_all(STDERR_FILENO, program);
-    io::write_all(STDERR_FILENO, b": ");
-    os::fail(what);
+pub fn fail(rt: &HostRuntime, program: &[u8], what: &[u8], why: Error) {
+    let to = rt.stderr();
+    let _ = to.write_all(program);
+    let _ = to.write_all(b": ");
+    let _ = to.write_all(what);
+    let _ = to.write_all(b": ");
+    let r = reason_of(why);
+    let _ = to.write_all(r.bytes());
+    let _ = to.write_all(b"\n");
 }
 
 // Says that a write failed.
-pub fn fail_output(program: &[u8]) {
-    fail(program, b"standard output");
+pub fn fail_output(rt: &HostRuntime, program: &[u8], why: Error) {
+    fail(rt, program, b"standard output", why);
+}
+
+// Opens the file of a name.
+fn open_named(rt: &HostRuntime, name: &[u8]) -> Result<File> {
+    match str::from_utf8(name) {
+        Ok(path) => File::open(rt, path),
+        Err(_) => Err(Error::from_raw_os_error(ILLEGAL_BYTES)),
+    }
 }
 
 // Opens what argument `file` names, and leaves the name in `name`; 0 is standard input.
-fn open(program: &[u8], file: usize, own: bool, name: &mut [u8]) -> Input
+fn open(rt: &HostRuntime, program: &[u8], file: usize, own: bool, name: &mut [u8]) -> Input
     ensures { IsPrefixLen result.len name.new }
 {
     if file == 0 {
@@ -59,84 +89,132 @@ fn open(program: &[u8], file: usize, own: bool, name: &mut [u8]) -> Input
         let n = io::count(14, name);
         return Input {
             ready: true,
-            fd: STDIN_FILENO,
+            from: Source::Standard(rt.stdin()),
             len: n,
             own: own,
         };
     }
-    let n = os::arg(file, name);
-    let fd = os::open_read(&name[..n]);
-    if fd < 0 {
-        fail(program, &name[..n]);
+    let n = match rt.arg(file, name) {
+        Ok(n) => n,
+        Err(_) => 0,
+    };
+    match open_named(rt, &name[..n]) {
+        Ok(f) => Input {
+            ready: true,
+            from: Source::Opened(f),
+            len: n,
+            own: own,
+        },
+        Err(why) => {
+            fail(rt, program, &name[..n], why);
+            Input {
+                ready: false,
+                from: Source::Standard(rt.stdin()),
+                len: n,
+                own: own,
+            }
+        }
     }
-    Input {
-        ready: fd >= 0,
-        fd: fd,
-        len: n,
-        own: own,
-    }
+}
+
+// Writes the usage line and the help behind it.
+fn print_help(rt: &HostRuntime, usage: &[u8], help: &[u8]) -> Result<()> {
+    rt.write_all(usage)?;
+    rt.write_all(help)
 }
 
 // Reads the program's words and opens its input, whose name it leaves in `name`. `own` is the one option beside `--help`, empty if there
 // is none. Help goes to standard output; wrong words are answered by the usage line. In both cases there is no input to work on.
-pub fn start(program: &[u8], own: &[u8], usage: &[u8], help: &[u8], name: &mut [u8]) -> Input
+pub fn start(
+    rt: &HostRuntime,
+    program: &[u8],
+    own: &[u8],
+    usage: &[u8],
+    help: &[u8],
+    name: &mut [u8],
+) -> Input
     ensures { IsPrefixLen result.len name.new }
 {
-    let w = asked::read(own);
+    let w = asked::read(rt, own);
     let asked = w.asked;
     match asked {
         Asked::Work => {
-            return open(program, w.file, w.own, name);
+            return open(rt, program, w.file, w.own, name);
         }
         Asked::Help => {
-            if !(io::write_all(STDOUT_FILENO, usage) && io::write_all(STDOUT_FILENO, help)) {
-                fail_output(program);
+            if let Err(why) = print_help(rt, usage, help) {
+                fail_output(rt, program, why);
             }
         }
         Asked::Usage => {
-            io::write_all(STDERR_FILENO, usage);
+            let _ = rt.stderr().write_all(usage);
         }
         Asked::TooLong => {
-            fail(program, b"a word");
+            fail(
+                rt,
+                program,
+                b"a word",
+                Error::from_raw_os_error(NAME_TOO_LONG),
+            );
         }
     }
     let n = io::count(0, name);
     Input {
         ready: false,
-        fd: STDIN_FILENO,
+        from: Source::Standard(rt.stdin()),
         len: n,
         own: false,
     }
 }
 
 // Reads once, as much as is there and the buffer holds.
-pub fn read_block(fd: i32, buf: &mut [u8]) -> Block
+pub fn read_block(from: &mut Source, buf: &mut [u8]) -> Block
     ensures { IsPrefixLen result.len buf.new }
 {
-    let got = libc::read(fd, buf);
-    let n = io::count(got, buf);
-    Block {
-        len: n,
-        failed: got < 0,
+    match read_once(from, buf) {
+        Ok(n) => Block {
+            len: n,
+            failed: None,
+        },
+        Err(why) => Block {
+            len: 0,
+            failed: Some(why),
+        },
+    }
+}
+
+fn read_once(from: &mut Source, buf: &mut [u8]) -> Result<usize>
+    ensures { ReadsAtMost result buf.new }
+{
+    match from {
+        Source::Standard(s) => s.read(buf),
+        Source::Opened(f) => f.read(buf),
     }
 }
 
 // Writes what stands in `out` before the text's end, all of it or not well. The buffer is free then.
-pub fn flush(out: &[u8], o: Out) -> Out
+pub fn flush(rt: &HostRuntime, out: &[u8], o: Out) -> Out
     ensures { result.at ≡ 0 }
 {
     let at = o.at;
-    if o.ok {
-        if at <= out.len() {
-            let ok = io::write_all(STDOUT_FILENO, &out[..at]);
-            return Out { at: 0, ok: ok };
-        }
+    if let Err(why) = o.ok {
+        return Out {
+            at: 0,
+            ok: Err(why),
+        };
     }
-    Out { at: 0, ok: false }
+    if at <= out.len() {
+        let ok = rt.write_all(&out[..at]);
+        return Out { at: 0, ok: ok };
+    }
+    Out {
+        at: 0,
+        ok: Err(Error::from(ErrorKind::InvalidInput)),
+    }
 }
 
 // An output with room for so many bytes more: the same one, or an empty one, once what stood in it is written.
-pub fn with_room(out: &[u8], o: Out, need: usize) -> Out
+pub fn with_room(rt: &HostRuntime, out: &[u8], o: Out, need: usize) -> Out
     ensures { Roomy out.now result.at need }
 {
     let at = o.at;
@@ -145,16 +223,17 @@ pub fn with_room(out: &[u8], o: Out, need: usize) -> Out
             return o;
         }
     }
-    flush(out, o)
+    flush(rt, out, o)
 }
 
 // Writes what stands in `out`, and says so if that, or a write before it, failed. Tells whether all went well.
-pub fn written(program: &[u8], out: &[u8], o: Out) -> bool {
-    let w = flush(out, o);
-    if !w.ok {
-        fail_output(program);
+pub fn written(rt: &HostRuntime, program: &[u8], out: &[u8], o: Out) -> bool {
+    let w = flush(rt, out, o);
+    if let Err(why) = w.ok {
+        fail_output(rt, program, why);
+        return false;
     }
-    w.ok
+    true
 }
 
 // The turns that a loop over blocks has left: none once a write failed. A proved loop has to end, and nothing says that an input does: so
@@ -166,7 +245,7 @@ pub fn turns_left(turns: u64, ok: bool) -> u64
 }
 
 // Writes a line, a name of at most 100 bytes and a number in decimal, and tells whether that went well.
-fn print_line(name: &[u8], n: u64) -> bool {
+fn print_line(rt: &HostRuntime, name: &[u8], n: u64) -> Result<()> {
     let mut digits = [0u8; 20];
     let k = io::decimal(n, &mut digits);
     let mut line = [0u8; 128];
@@ -174,36 +253,48 @@ fn print_line(name: &[u8], n: u64) -> bool {
     let counted = put_all(&mut line, named, &digits[..k]);
     let ended = put(&mut line, counted, b'\n');
     let o = flush(
+        rt,
         &line,
         Out {
             at: ended,
-            ok: true,
+            ok: Ok(()),
         },
     );
     o.ok
 }
 
+// The place of the first such byte from a place on; the end, if there is none.
+fn find(s: &[u8], from: usize, b: u8) -> usize
+    requires { from ≤ length s.now }
+    ensures { (from ≤ result) × (result ≤ length s.now) }
+{
+    for i in from..s.len() {
+        if s[i] == b {
+            return i;
+        }
+    }
+    s.len()
+}
+
 // Writes a line for each number, behind its name. The names stand on end, each with a space behind it; all is well where they end first.
-pub fn print_lines(names: &[u8], numbers: &[u64]) -> bool {
+pub fn print_lines(rt: &HostRuntime, names: &[u8], numbers: &[u64]) -> Result<()> {
     let mut at = 0;
     let mut i = 0;
     while i < numbers.len() {
-        let end = bytes::scan::find(names, at, names.len(), b' ');
+        let end = find(names, at, b' ');
         if names.len() <= end {
             break;
         }
         let next = end + 1;
-        if !print_line(&names[at..next], numbers[i]) {
-            return false;
-        }
+        print_line(rt, &names[at..next], numbers[i])?;
         at = next;
         i += 1;
     }
-    true
+    Ok(())
 }
 
 // Writes a ledger, 01's nine lines, and tells whether that went well.
-pub fn print_ledger(l: Ledger) -> bool {
+pub fn print_ledger(rt: &HostRuntime, l: Ledger) -> Result<()> {
     let numbers = [
         l.openings,
         l.frames,
@@ -216,6 +307,7 @@ pub fn print_ledger(l: Ledger) -> bool {
         l.unfinished,
     ];
     print_lines(
+        rt,
         b"openings frames runts checksums giants escaped broken noise open ",
         &numbers,
     )

@@ -32,6 +32,7 @@ fn put_records(
 
 // The output after the records of an answer; the same one, if no log is asked for.
 fn logged(
+    rt: &HostRuntime,
     out: &mut [u8],
     o: Out,
     asked: bool,
@@ -43,7 +44,7 @@ fn logged(
     if !asked {
         return o;
     }
-    let roomy = console::with_room(out, o, ROOM);
+    let roomy = console::with_room(rt, out, o, ROOM);
     let next = put_records(out, roomy.at, cpayloads, address, payload, answer);
     Out {
         at: next,
@@ -53,6 +54,7 @@ fn logged(
 
 // Takes the frame that was handed out, if one was, with the payload in the body: the transport step, and its records.
 fn take_answer(
+    rt: &HostRuntime,
     body: &[u8; 256],
     answer: Answer,
     nkeys: &mut [u32; 32],
@@ -79,13 +81,14 @@ fn take_answer(
             nkeys, numbers, skeys, sequences, ckeys, ctypes, clengths, cpayloads, counters,
             address, frame_type, payload,
         );
-        return logged(out, o, asked, cpayloads, address, payload, told);
+        return logged(rt, out, o, asked, cpayloads, address, payload, told);
     }
     o
 }
 
 // Feeds a block to its end and takes its frames. Gives the output after them, which still is to be written; a write that fails ends it.
 pub fn take_block(
+    rt: &HostRuntime,
     receiver: &mut [u64; 10],
     body: &mut [u8; 256],
     s: &[u8],
@@ -101,17 +104,17 @@ pub fn take_block(
     out: &mut [u8],
     asked: bool,
 ) -> Out {
-    let mut o = Out { at: 0, ok: true };
+    let mut o = Out { at: 0, ok: Ok(()) };
     let mut i = 0;
     while i < s.len() {
         let f = feed_from(receiver, body, s, i);
         let answer = f.answer;
         o = take_answer(
-            body, answer, nkeys, numbers, skeys, sequences, ckeys, ctypes, clengths, cpayloads,
+            rt, body, answer, nkeys, numbers, skeys, sequences, ckeys, ctypes, clengths, cpayloads,
             counters, out, o, asked,
         );
         let next = f.at;
-        if next <= i || !o.ok {
+        if next <= i || o.ok.is_err() {
             return o;
         }
         i = next;

@@ -6,54 +6,69 @@ ghost use Rattle.std.specs.Prelude.{◌≤◌};
 
 use blocks::take_block;
 use books::Telling;
-use console::Out;
+use console::{Out, Source};
 use counters::print_counters;
 use link_receive::numbered::receiver_at;
+use std::io::{Error, Result};
 use transport_receiver::POOL;
 
 mod blocks;
 mod counters;
 
 // Prints the ledger of all that was read, and the counters, and tells whether that went well.
-fn print_books(receiver: &[u64; 10], body: &[u8; 256], counters: &[u64; 33]) -> bool {
+fn print_books(
+    rt: &HostRuntime,
+    receiver: &[u64; 10],
+    body: &[u8; 256],
+    counters: &[u64; 33],
+) -> Result<()> {
     let numbers = *receiver;
     let units = *body;
     let Telling::So(l) = books::told(receiver_at(numbers, units)) else {
-        return true;
+        return Ok(());
     };
-    console::print_ledger(l) && print_counters(counters)
+    console::print_ledger(rt, l)?;
+    print_counters(rt, counters)
 }
 
 // What is left to do after the last read: the books, if they are asked for and anything came or nothing failed, and a word if it failed.
 fn finish(
+    rt: &HostRuntime,
     name: &[u8],
-    failed: bool,
+    failed: Option<Error>,
     some: bool,
     books: bool,
     receiver: &[u64; 10],
     body: &[u8; 256],
     counters: &[u64; 33],
 ) {
-    if books && (some || !failed) {
-        if !print_books(receiver, body, counters) {
-            console::fail_output(b"events");
+    if books && (some || failed.is_none()) {
+        if let Err(why) = print_books(rt, receiver, body, counters) {
+            console::fail_output(rt, b"events", why);
             return;
         }
     }
-    if failed {
-        console::fail(b"events", name);
+    if let Some(why) = failed {
+        console::fail(rt, b"events", name, why);
     }
 }
 
 // Writes what a block left in the output. Gives the turns that are left then.
-fn onward(turns: u64, out: &[u8], o: Out) -> u64
+fn onward(rt: &HostRuntime, turns: u64, out: &[u8], o: Out) -> u64
     ensures { result ≤ turns }
 {
-    console::turns_left(turns, console::written(b"events", out, o))
+    console::turns_left(turns, console::written(rt, b"events", out, o))
 }
 
 // Takes blocks to the input's end. Receiver and tables are kept here, and are fresh where all is 0.
-fn take_input(fd: i32, name: &[u8], log: bool, buf: &mut [u8], out: &mut [u8]) {
+fn take_input(
+    rt: &HostRuntime,
+    mut from: Source,
+    name: &[u8],
+    log: bool,
+    buf: &mut [u8],
+    out: &mut [u8],
+) {
     let mut receiver = [0u64; 10];
     let mut body = [0u8; 256];
     let mut nkeys = [0u32; 32];
@@ -68,14 +83,15 @@ fn take_input(fd: i32, name: &[u8], log: bool, buf: &mut [u8], out: &mut [u8]) {
     let mut turns = u64::MAX;
     while turns > 0 {
         turns -= 1;
-        let b = console::read_block(fd, buf);
+        let b = console::read_block(&mut from, buf);
         let n = b.len;
         if n == 0 {
             let some = turns < u64::MAX - 1;
-            finish(name, b.failed, some, !log, &receiver, &body, &counters);
+            finish(rt, name, b.failed, some, !log, &receiver, &body, &counters);
             return;
         }
         let taken = take_block(
+            rt,
             &mut receiver,
             &mut body,
             &buf[..n],
@@ -91,13 +107,14 @@ fn take_input(fd: i32, name: &[u8], log: bool, buf: &mut [u8], out: &mut [u8]) {
             out,
             log,
         );
-        turns = onward(turns, out, taken);
+        turns = onward(rt, turns, out, taken);
     }
 }
 
-fn main() {
+fn main(rt: HostRuntime) {
     let mut space = io::buffer();
     let i = console::start(
+        &rt,
         b"events",
         b"--ledger",
         b"usage: events [FILE] [--ledger]\n",
@@ -108,6 +125,6 @@ fn main() {
     if i.ready {
         let mut bytes = io::large_buffer();
         let mut records = io::large_buffer();
-        take_input(i.fd, &space[..n], !i.own, &mut bytes, &mut records);
+        take_input(&rt, i.from, &space[..n], !i.own, &mut bytes, &mut records);
     }
 }

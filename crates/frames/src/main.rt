@@ -4,7 +4,7 @@
 
 use address::Address;
 use console::text::{put, put_all, put_hex};
-use console::{Out, written};
+use console::{Out, Source, written};
 use link_feed::lending::feed_from;
 use link_receive::Answer;
 
@@ -52,7 +52,7 @@ fn put_frame(
 }
 
 // Puts the line of the frame that was handed out, if one was, with the payload in the body.
-fn put_answer(out: &mut [u8], o: Out, body: &[u8; 256], answer: Answer) -> Out {
+fn put_answer(rt: &HostRuntime, out: &mut [u8], o: Out, body: &[u8; 256], answer: Answer) -> Out {
     let Answer::Frame {
         address,
         frame_type,
@@ -61,7 +61,7 @@ fn put_answer(out: &mut [u8], o: Out, body: &[u8; 256], answer: Answer) -> Out {
     else {
         return o;
     };
-    let roomy = console::with_room(out, o, LONGEST);
+    let roomy = console::with_room(rt, out, o, LONGEST);
     let payload = link_receive::payload(body, len);
     let next = put_frame(out, roomy.at, address, frame_type.0, payload);
     Out {
@@ -71,45 +71,52 @@ fn put_answer(out: &mut [u8], o: Out, body: &[u8; 256], answer: Answer) -> Out {
 }
 
 // Feeds a block to its end, and writes a line for each frame. Tells whether all was written; a write that fails ends it.
-fn print_block(numbers: &mut [u64; 10], body: &mut [u8; 256], s: &[u8], out: &mut [u8]) -> bool {
-    let mut o = Out { at: 0, ok: true };
+fn print_block(
+    rt: &HostRuntime,
+    numbers: &mut [u64; 10],
+    body: &mut [u8; 256],
+    s: &[u8],
+    out: &mut [u8],
+) -> bool {
+    let mut o = Out { at: 0, ok: Ok(()) };
     let mut i = 0;
     while i < s.len() {
         let f = feed_from(numbers, body, s, i);
         let answer = f.answer;
-        o = put_answer(out, o, body, answer);
+        o = put_answer(rt, out, o, body, answer);
         let next = f.at;
-        if next <= i || !o.ok {
-            return written(b"frames", out, o);
+        if next <= i || o.ok.is_err() {
+            return written(rt, b"frames", out, o);
         }
         i = next;
     }
-    written(b"frames", out, o)
+    written(rt, b"frames", out, o)
 }
 
 // Reads blocks to the input's end, and prints their frames. The receiver is kept here: fresh it is ten numbers and a body, all of them 0.
-fn print_all(fd: i32, name: &[u8], buf: &mut [u8], out: &mut [u8]) {
+fn print_all(rt: &HostRuntime, mut from: Source, name: &[u8], buf: &mut [u8], out: &mut [u8]) {
     let mut numbers = [0u64; 10];
     let mut body = [0u8; 256];
     let mut turns = u64::MAX;
     while turns > 0 {
         turns -= 1;
-        let b = console::read_block(fd, buf);
+        let b = console::read_block(&mut from, buf);
         let n = b.len;
         if n == 0 {
-            if b.failed {
-                console::fail(b"frames", name);
+            if let Some(why) = b.failed {
+                console::fail(rt, b"frames", name, why);
             }
             return;
         }
-        let ok = print_block(&mut numbers, &mut body, &buf[..n], out);
+        let ok = print_block(rt, &mut numbers, &mut body, &buf[..n], out);
         turns = console::turns_left(turns, ok);
     }
 }
 
-fn main() {
+fn main(rt: HostRuntime) {
     let mut space = io::buffer();
     let i = console::start(
+        &rt,
         b"frames",
         b"",
         b"usage: frames [FILE]\n",
@@ -120,6 +127,6 @@ fn main() {
     if i.ready {
         let mut bytes = io::large_buffer();
         let mut text = io::large_buffer();
-        print_all(i.fd, &space[..n], &mut bytes, &mut text);
+        print_all(&rt, i.from, &space[..n], &mut bytes, &mut text);
     }
 }

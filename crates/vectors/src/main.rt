@@ -2,16 +2,35 @@
 // tools/vectors/make.py writes the files; the head of each says what a row holds.
 #![tactic(auto)]
 
+ghost use Rattle.std.specs.Prelude.{◌≤◌, length};
+
 mod rows;
 mod runs;
 
-use libc::STDOUT_FILENO;
+use std::fs::File;
+use std::io::{Read, Result};
+
+// How many bytes of a file are read.
+const MOST: u64 = 65536;
 
 // How many rows were seen, and how many agreed.
 #[derive(Clone, Copy)]
 pub struct Count {
     pub all: u64,
     pub agreed: u64,
+}
+
+// The place of the first such byte from a place on; the end, if there is none.
+fn find(s: &[u8], from: usize, b: u8) -> usize
+    requires { from ≤ length s.now }
+    ensures { (from ≤ result) × (result ≤ length s.now) }
+{
+    for i in from..s.len() {
+        if s[i] == b {
+            return i;
+        }
+    }
+    s.len()
 }
 
 // Replays each line of `text` that is a row.
@@ -30,37 +49,32 @@ fn replay(letter: u8, text: &[u8]) -> Count {
             }
             runs::Line::Comment => {}
         }
-        i = bytes::scan::find(text, i, text.len(), b'\n') + 1;
+        i = find(text, i, b'\n') + 1;
     }
     Count { all, agreed }
 }
 
 // Replays a file of data/ and prints its line.
-fn file(letter: u8, path: &[u8]) {
-    let fd = os::open_read(path);
-    if fd < 0 {
-        os::fail(path);
-        return;
-    }
-    let mut text = io::large_buffer();
-    let n = io::read_full(fd, &mut text);
-    libc::close(fd);
-    let count = replay(letter, &text[..n]);
-    io::write_all(STDOUT_FILENO, path);
-    io::write_all(STDOUT_FILENO, b": ");
-    io::print_decimal(STDOUT_FILENO, count.agreed);
-    io::write_all(STDOUT_FILENO, b" of ");
-    io::print_decimal(STDOUT_FILENO, count.all);
-    io::write_all(STDOUT_FILENO, b" rows agree\n");
+fn file(rt: &HostRuntime, letter: u8, path: &str) -> Result<()> {
+    let opened = match File::open(rt, path) {
+        Ok(f) => f,
+        Err(why) => return eprintln!(rt; "{path}: {why}"),
+    };
+    let mut text = Vec::new(rt.alloc());
+    opened.take(MOST).read_to_end(&mut text)?;
+    let count = replay(letter, &text);
+    let agreed = count.agreed;
+    let all = count.all;
+    println!(rt; "{path}: {agreed} of {all} rows agree")
 }
 
-fn main() {
-    file(runs::CRC, b"crc");
-    file(runs::ESCAPED_LENGTH, b"escaped_length");
-    file(runs::ESCAPE, b"escape");
-    file(runs::UNESCAPED_BYTE, b"unescaped_byte");
-    file(runs::GATEWAY_ID, b"gateway_id");
-    file(runs::ADDRESS, b"address");
-    file(runs::NUMBER, b"number");
-    file(runs::ENCODE, b"encode");
+fn main(rt: HostRuntime) -> Result<()> {
+    file(&rt, runs::CRC, "crc")?;
+    file(&rt, runs::ESCAPED_LENGTH, "escaped_length")?;
+    file(&rt, runs::ESCAPE, "escape")?;
+    file(&rt, runs::UNESCAPED_BYTE, "unescaped_byte")?;
+    file(&rt, runs::GATEWAY_ID, "gateway_id")?;
+    file(&rt, runs::ADDRESS, "address")?;
+    file(&rt, runs::NUMBER, "number")?;
+    file(&rt, runs::ENCODE, "encode")
 }

@@ -66,7 +66,7 @@ fn judge(letter: u8, input: &[u8], text: &[u8], at: usize) -> Line
 fn compare(letter: u8, input: &[u8], expected: &[u8]) -> Line {
     let mut got = room(0xee);
     let n = run(letter, input, &mut got);
-    if check::same(&got[..n], expected) {
+    if &got[..n] == expected {
         Line::Agrees
     } else {
         Line::Differs

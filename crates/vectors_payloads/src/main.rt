@@ -5,9 +5,14 @@
 ghost use Rattle.std.specs.Prelude.{◌<◌, ◌≤◌, length};
 ghost use Rattle.io.specs.Counts.{IsPrefixLen};
 
-use libc::STDOUT_FILENO;
 use slot_counter::{Numbered, Since, SlotCounter};
+use std::env::Env;
+use std::fs::File;
+use std::io::{Read, Result};
 use transport::{PacketNumber, ReceiveRead, ReceiveResponse};
+
+// How many bytes of a file are read.
+const MOST: u64 = 65536;
 
 // What a hexadecimal digit stands for; 16 for any other byte.
 fn digit(b: u8) -> u8
@@ -163,6 +168,19 @@ fn answer(letter: u8, input: &[u8]) -> u64 {
     }
 }
 
+// The place of the first such byte from a place on; the end, if there is none.
+fn find(s: &[u8], from: usize, b: u8) -> usize
+    requires { from ≤ length s.now }
+    ensures { (from ≤ result) × (result ≤ length s.now) }
+{
+    for i in from..s.len() {
+        if s[i] == b {
+            return i;
+        }
+    }
+    s.len()
+}
+
 // What a line is: 0 no row, 1 a row whose answer is right, 2 one whose answer is wrong.
 fn judged(line: &[u8]) -> u8 {
     if line.len() < 5 {
@@ -171,12 +189,12 @@ fn judged(line: &[u8]) -> u8 {
     if line[0] == 0x23 {
         return 0;
     }
-    let told = bytes::scan::find(line, 2, line.len(), b' ');
+    let told = find(line, 2, b' ');
     if line.len() <= told {
         return 2;
     }
     let from = told + 1;
-    let to = bytes::scan::find(line, from, line.len(), b' ');
+    let to = find(line, from, b' ');
     let expected = number(&line[2..told]);
     let mut input = [0u8; 512];
     let n = bytes(&line[from..to], &mut input);
@@ -200,7 +218,7 @@ fn run(text: &[u8]) -> Ran {
     let mut wrong: u64 = 0;
     let mut at: usize = 0;
     while at < text.len() {
-        let end = bytes::scan::find(text, at, text.len(), b'\n');
+        let end = find(text, at, b'\n');
         let j = judged(&text[at..end]);
         if j != 0 {
             rows = std::num::wrapping_add_u64(rows, 1);
@@ -216,32 +234,38 @@ fn run(text: &[u8]) -> Ran {
     Ran { rows, wrong }
 }
 
-// Runs the file that an argument names, and prints its line.
-fn run_file(i: usize) {
-    let mut path = io::buffer();
-    let length = os::arg(i, &mut path);
-    let fd = os::open_read(&path[..length]);
-    if fd < 0 {
-        os::fail(&path[..length]);
-        return;
-    }
-    let mut text = io::large_buffer();
-    let n = io::read_full(fd, &mut text);
-    libc::close(fd);
-    let ran = run(&text[..n]);
-    io::write_all(STDOUT_FILENO, &path[..length]);
-    io::write_all(STDOUT_FILENO, b" rows ");
-    io::print_decimal(STDOUT_FILENO, ran.rows);
-    io::write_all(STDOUT_FILENO, b" wrong ");
-    io::print_decimal(STDOUT_FILENO, ran.wrong);
-    io::write_all(STDOUT_FILENO, b"\n");
+// Runs the file of a path, and prints its line.
+fn run_path(rt: &HostRuntime, path: &str) -> Result<()> {
+    let opened = match File::open(rt, path) {
+        Ok(f) => f,
+        Err(why) => return eprintln!(rt; "{path}: {why}"),
+    };
+    let mut text = Vec::new(rt.alloc());
+    opened.take(MOST).read_to_end(&mut text)?;
+    let ran = run(&text);
+    let rows = ran.rows;
+    let wrong = ran.wrong;
+    println!(rt; "{path} rows {rows} wrong {wrong}")
 }
 
-fn main() {
-    run_file(1);
-    run_file(2);
-    run_file(3);
-    run_file(4);
-    run_file(5);
-    run_file(6);
+// Runs the file that an argument names, and prints its line.
+fn run_file(rt: &HostRuntime, i: usize) -> Result<()> {
+    let mut path = io::buffer();
+    let length = match rt.arg(i, &mut path) {
+        Ok(n) => n,
+        Err(_) => 0,
+    };
+    match str::from_utf8(&path[..length]) {
+        Ok(text) => run_path(rt, text),
+        Err(_) => eprintln!(rt; "argument {i} is no text"),
+    }
+}
+
+fn main(rt: HostRuntime) -> Result<()> {
+    run_file(&rt, 1)?;
+    run_file(&rt, 2)?;
+    run_file(&rt, 3)?;
+    run_file(&rt, 4)?;
+    run_file(&rt, 5)?;
+    run_file(&rt, 6)
 }

@@ -6,8 +6,12 @@ ghost use Rattle.std.specs.Prelude.{◌+◌, ◌<◌, ◌≤◌, length};
 
 use address::GatewayID;
 use event_record::Recorded;
-use libc::STDOUT_FILENO;
 use sound_record::Stands;
+use std::fs::File;
+use std::io::{Print, Read, Result};
+
+// How many bytes of a file are read.
+const MOST: u64 = 65536;
 
 fn pair(hi: u8, lo: u8) -> u16 {
     (hi as u16) * 256 + (lo as u16)
@@ -115,7 +119,7 @@ fn encodes_in(row: &[u8], out: &mut [u8]) -> bool {
     if answer != number(row, 1) {
         return false;
     }
-    check::same(out, third(row))
+    &*out == third(row)
 }
 
 fn encodes(row: &[u8]) -> bool {
@@ -157,51 +161,59 @@ struct Count {
 }
 
 // Names a row that does not agree by its rule.
-fn name(row: &[u8]) {
-    io::write_all(STDOUT_FILENO, rule(row));
-    io::write_all(STDOUT_FILENO, b"\n");
+fn name(rt: &HostRuntime, row: &[u8]) -> Result<()> {
+    rt.write_all(rule(row))?;
+    rt.write_all(b"\n")
+}
+
+// The place of the first such byte from a place on; the end, if there is none.
+fn find(s: &[u8], from: usize, b: u8) -> usize
+    requires { from ≤ length s.now }
+    ensures { (from ≤ result) × (result ≤ length s.now) }
+{
+    for i in from..s.len() {
+        if s[i] == b {
+            return i;
+        }
+    }
+    s.len()
 }
 
 // Runs each row.
-fn run(text: &[u8]) -> Count {
+fn run(rt: &HostRuntime, text: &[u8]) -> Result<Count> {
     let mut all: u64 = 0;
     let mut agreed: u64 = 0;
     // the first line says what the file is
-    let mut at = bytes::scan::find(text, 0, text.len(), b'\n') + 1;
+    let mut at = find(text, 0, b'\n') + 1;
     while at < text.len() {
         let row = &text[at..];
         all = std::num::wrapping_add_u64(all, 1);
         if agrees(row) {
             agreed = std::num::wrapping_add_u64(agreed, 1);
         } else {
-            name(row);
+            name(rt, row)?;
         }
         at = at + length_of(row);
     }
-    Count { all, agreed }
+    Ok(Count { all, agreed })
 }
 
-fn file(path: &[u8]) {
-    let fd = os::open_read(path);
-    if fd < 0 {
-        os::fail(path);
-        return;
-    }
-    let mut text = io::large_buffer();
-    let n = io::read_full(fd, &mut text);
-    libc::close(fd);
-    let count = run(&text[..n]);
-    io::write_all(STDOUT_FILENO, path);
-    io::write_all(STDOUT_FILENO, b": ");
-    io::print_decimal(STDOUT_FILENO, count.agreed);
-    io::write_all(STDOUT_FILENO, b" of ");
-    io::print_decimal(STDOUT_FILENO, count.all);
-    io::write_all(STDOUT_FILENO, b" rows agree\n");
+fn file(rt: &HostRuntime, path: &str) -> Result<()> {
+    let opened = match File::open(rt, path) {
+        Ok(f) => f,
+        Err(why) => return eprintln!(rt; "{path}: {why}"),
+    };
+    let mut text = Vec::new(rt.alloc());
+    opened.take(MOST).read_to_end(&mut text)?;
+    let count = run(rt, &text)?;
+    let agreed = count.agreed;
+    let all = count.all;
+    println!(rt; "{path}: {agreed} of {all} rows agree")
 }
 
-fn main() {
-    file(b"sound");
-    file(b"damaged");
-    file(b"places");
-    file(b"encoded");
+fn main(rt: HostRuntime) -> Result<()> {
+    file(&rt, "sound")?;
+    file(&rt, "damaged")?;
+    file(&rt, "places")?;
+    file(&rt, "encoded")
 }

@@ -3,11 +3,15 @@
 // What the Rust makes of the same streams is the file `stdout`; tools/oracle writes both.
 #![tactic(auto)]
 
-ghost use Rattle.std.specs.Prelude.{◌≤◌};
+ghost use Rattle.std.specs.Prelude.{◌≤◌, length};
 
 use address::Address;
-use libc::STDOUT_FILENO;
 use link_receive::{Answer, Receiver};
+use std::fs::File;
+use std::io::{Print, Read, Result};
+
+// How many bytes of a file are read.
+const MOST: u64 = 65536;
 
 // The value of a hexadecimal digit; 16 for any other byte.
 fn digit(b: u8) -> u8
@@ -25,9 +29,8 @@ fn byte_of(high: u8, low: u8) -> u8 {
     (high % 16) * 16 + low % 16
 }
 
-fn number(n: u64) {
-    io::print_decimal(STDOUT_FILENO, n);
-    io::write_all(STDOUT_FILENO, b" ");
+fn number(rt: &HostRuntime, n: u64) -> Result<()> {
+    print!(rt; "{n} ")
 }
 
 // The 16 bits of an address that stood on the line.
@@ -39,41 +42,41 @@ fn address_number(a: Address) -> u64 {
 }
 
 // A step's frame, if it hands one out; its payload stands in the body.
-fn frame(a: Answer, body: &[u8]) {
+fn frame(rt: &HostRuntime, a: Answer, body: &[u8]) -> Result<()> {
     match a {
-        Answer::Nothing => {}
-        Answer::Refused => {}
+        Answer::Nothing => Ok(()),
+        Answer::Refused => Ok(()),
         Answer::Frame {
             address,
             frame_type,
             len,
         } => {
-            number(address_number(address));
-            number(frame_type.0 as u64);
-            number(len as u64);
-            number(crc::crc(link_receive::payload(body, len)) as u64);
-            io::write_all(STDOUT_FILENO, b"| ");
+            number(rt, address_number(address))?;
+            number(rt, frame_type.0 as u64)?;
+            number(rt, len as u64)?;
+            number(rt, crc::crc(link_receive::payload(body, len)) as u64)?;
+            rt.write_all(b"| ")
         }
     }
 }
 
-fn ledger(r: Receiver) {
+fn ledger(rt: &HostRuntime, r: Receiver) -> Result<()> {
     let t = r.tallies;
     let s = r.state;
-    number(t.openings);
-    number(t.frames);
-    number(t.runts);
-    number(t.checksums);
-    number(t.giants);
-    number(t.escaped);
-    number(t.broken);
-    number(t.noise);
-    io::print_decimal(STDOUT_FILENO, link_receive::open_frames(s));
-    io::write_all(STDOUT_FILENO, b"\n");
+    number(rt, t.openings)?;
+    number(rt, t.frames)?;
+    number(rt, t.runts)?;
+    number(rt, t.checksums)?;
+    number(rt, t.giants)?;
+    number(rt, t.escaped)?;
+    number(rt, t.broken)?;
+    number(rt, t.noise)?;
+    let open = link_receive::open_frames(s);
+    println!(rt; "{open}")
 }
 
 // A line's stream.
-fn stream(line: &[u8]) {
+fn stream(rt: &HostRuntime, line: &[u8]) -> Result<()> {
     let mut r = Receiver::new();
     let mut high = 16;
     let mut i = 0;
@@ -86,7 +89,7 @@ fn stream(line: &[u8]) {
                 let next = s.next;
                 let body = next.body;
                 let a = s.answer;
-                frame(a, &body);
+                frame(rt, a, &body)?;
                 r = next;
                 high = 16;
             } else {
@@ -94,38 +97,49 @@ fn stream(line: &[u8]) {
             }
         }
     }
-    ledger(r);
+    ledger(rt, r)
 }
 
-fn line(s: &[u8]) {
+fn line(rt: &HostRuntime, s: &[u8]) -> Result<()> {
     if 0 < s.len() {
         if s[0] == 0x23 {
-            io::write_all(STDOUT_FILENO, s);
-            io::write_all(STDOUT_FILENO, b"\n");
-            return;
+            rt.write_all(s)?;
+            return rt.write_all(b"\n");
         }
     }
-    stream(s);
+    stream(rt, s)
 }
 
-fn replay(text: &[u8]) {
+// The place of the first such byte from a place on; the end, if there is none.
+fn find(s: &[u8], from: usize, b: u8) -> usize
+    requires { from ≤ length s.now }
+    ensures { (from ≤ result) × (result ≤ length s.now) }
+{
+    for i in from..s.len() {
+        if s[i] == b {
+            return i;
+        }
+    }
+    s.len()
+}
+
+fn replay(rt: &HostRuntime, text: &[u8]) -> Result<()> {
     let mut i = 0;
     while i < text.len() {
-        let end = bytes::scan::find(text, i, text.len(), b'\n');
-        line(&text[i..end]);
+        let end = find(text, i, b'\n');
+        line(rt, &text[i..end])?;
         i = end + 1;
     }
+    Ok(())
 }
 
-fn main() {
-    let path = b"streams";
-    let fd = os::open_read(path);
-    if fd < 0 {
-        os::fail(path);
-        return;
-    }
-    let mut text = io::large_buffer();
-    let n = io::read_full(fd, &mut text);
-    libc::close(fd);
-    replay(&text[..n]);
+fn main(rt: HostRuntime) -> Result<()> {
+    let path = "streams";
+    let opened = match File::open(&rt, path) {
+        Ok(f) => f,
+        Err(why) => return eprintln!(rt; "{path}: {why}"),
+    };
+    let mut text = Vec::new(rt.alloc());
+    opened.take(MOST).read_to_end(&mut text)?;
+    replay(&rt, &text)
 }
