@@ -2,31 +2,29 @@
 -- (reading/specs/Counts.antt), the wire form (link/specs/Wire.antt), what a host's run is (link_feed/specs/Hosts.antt) and what it is to be
 -- read back (books/specs/ReadBack.antt).
 -- Everything is over any check; the CRC is put in where the code's contracts name `crc_of`. Assumes nothing.
-use mathlib.Core.Path.{◌≡◌, refl, sym, ◌∙◌, ap}
-use Prim.Native.Nat.{ℕ, ◌+◌, ◌≤◌, ◌<◌, ◌^◌}
+use mathlib.Core.Path.{◌≡◌, sym, ◌∙◌, ap}
+use Prim.Native.Nat.{ℕ, ◌+◌, ◌<◌, ◌^◌}
 use mathlib.Core.Bool.{true}
-use mathlib.Core.List.{List, [], ◌∷◌, ◌++◌}
+use mathlib.Core.List.{List, [], ◌++◌}
 use native.Mathlib.Omega.{arith}
 use lib.ListN.{length, take}
 use Rattle.laws.specs.Handed.{value}
 use Rattle.address.specs.declared.Address.{Address}
-use Rattle.link.specs.Wire.{Frame, payload_limit, encoded_of}
+use Rattle.link.specs.Wire.{Frame, encoded_of}
 use Rattle.link.specs.Handed.{frame_for, encode_handed, encode_bytes}
 use Rattle.reading.specs.Counters.{Counter}
 use Rattle.reading.specs.Counters as k
 use Rattle.reading.specs.Grammar.{Rules, present, Line, Piece, Reading, TheReading}
-use Rattle.reading.specs.Counts.{out, left, open_in, count, count_since, endings_since, sound_frames}
+use Rattle.reading.specs.Counts.{out, left, open_in, count, sound_frames}
 use Rattle.reading.proofs.Reader.{pieces_of}
 use Rattle.reading.proofs.Once.{the-reading}
 use Rattle.reading.proofs.Unique.{unique}
 use Rattle.reading.proofs.Books.{balance, balance-since}
 use Rattle.link_receive.specs.declared.Receiver.{Receiver}
-use Rattle.link_receive.specs.declared.State.TheVariants as state
-use Rattle.link_receive.specs.Tally.{tally_of, raise}
+use Rattle.link_receive.specs.Tally.{tally_of}
 use Rattle.link_receive.specs.Step.{room, fresh_of, rules_of, Within, open_of}
 use Rattle.link_receive.proofs.Rules.{rules_of-fresh, payload-fits}
-use Rattle.link_feed.specs.Feed.{feed_of}
-use Rattle.link_feed.specs.Drain.{drain_of, frames_of, frames_fed}
+use Rattle.link_feed.specs.Drain.{drain_of}
 use Rattle.link_feed.specs.Hosts.{Hosted, handing}
 use Rattle.link_feed.proofs.Drains.{rules_of-drain}
 use Rattle.link_feed.proofs.Hosts.{hosted-drain, hosted-frames}

@@ -1,15 +1,13 @@
 -- What leads to a fresh receiver and to one whose tallies were reset. Over any check. Assumes nothing.
-use mathlib.Core.Path.{◌≡◌, refl, sym, ◌∙◌, ap}
-use Prim.Native.Nat.{ℕ, ◌+◌, ◌≤◌, ◌%◌, ◌^◌, ◌-◌}
-use mathlib.Core.Bool.{false}
+use mathlib.Core.Path.{◌≡◌, refl, ◌∙◌}
+use Prim.Native.Nat.{ℕ}
 use mathlib.Core.List.{List, [], ◌∷◌, ◌++◌, append-nil}
 use native.Mathlib.Omega.{arith}
-use lib.ListN.{length, length-replicate}
+use lib.ListN.{length-replicate}
 use borrow.Author.Tests.{le-ltb}
 use Rattle.reading.specs.Counters.{Counter}
 use Rattle.reading.specs.Counters as k
-use Rattle.reading.specs.Grammar.{Piece, Reading, TheReading}
-use Rattle.reading.specs.Counts.{left, left_from, count, count_since, sound_bodies, sound_frames}
+use Rattle.reading.specs.Counts.{left_from, sound_bodies, sound_frames}
 use Rattle.reading.proofs.Reader.{pieces, pieces_of}
 use Rattle.reading.proofs.Once.{the-reading}
 use Rattle.link_receive.specs.declared.Receiver.{Receiver}
@@ -20,7 +18,7 @@ use Rattle.link_receive.proofs.Rules.{rules_of-made}
 use Rattle.link_feed.specs.Feed.{feed_of}
 use Rattle.link_feed.specs.Drain.{drain_of}
 use Rattle.link_feed.proofs.Drains.{feed_of-goes}
-use Rattle.books.specs.Stands.{rest_at, Since, After}
+use Rattle.books.specs.Stands.{Since, After}
 use Rattle.books.proofs.Run.{since-more}
 
 tally_of-zeros : (j : Counter) → tally_of j zeros ≡ 0

@@ -1,7 +1,7 @@
 -- What the functions of this crate keep: each contract follows from the equation of the function that it is thin over. Over any check.
 -- Assumes nothing.
-use mathlib.Core.Path.{◌≡◌, refl, sym, ◌∙◌, ap}
-use Prim.Native.Nat.{ℕ, ◌≤◌, ◌<◌, ◌^◌}
+use mathlib.Core.Path.{◌≡◌, sym, ◌∙◌, ap}
+use Prim.Native.Nat.{ℕ, ◌<◌, ◌^◌}
 use mathlib.Core.List.{List, [], ◌++◌}
 use lib.ListN.{length, take}
 use borrow.Author.Tests.{le-ltb}
@@ -17,7 +17,7 @@ use Rattle.link_feed.specs.Drain.{drain_of, frames_of, frames_fed, extend_of}
 use Rattle.link_feed.proofs.Drains.{rules_of-drain, rules_of-extend}
 use Rattle.books.specs.declared.Ledger.{Ledger}
 use Rattle.books.specs.declared.Telling.{Telling}
-use Rattle.books.specs.Stands.{Since, After}
+use Rattle.books.specs.Stands.{Since}
 use Rattle.books.specs.Ledgers.{ledger_at, told_of, Ledgered, ToldAs, Absorbed}
 use Rattle.books.specs.Gives.{GaveOn, Gave}
 use Rattle.books.proofs.Run.{since-more, frames-more}

@@ -1,13 +1,12 @@
 -- The ledger that a receiver tells is that of the bytes that lead to it. Over any check. Assumes nothing.
 use mathlib.Core.Path.{◌≡◌, refl, sym, ◌∙◌, ap}
-use Prim.Native.Nat.{ℕ, ◌+◌, ◌-◌, ◌<◌, ◌^◌}
-use mathlib.Core.List.{List, [], ◌∷◌, ◌++◌}
+use Prim.Native.Nat.{ℕ, ◌<◌, ◌^◌}
+use mathlib.Core.List.{List, []}
 use native.Mathlib.Omega.{arith}
 use lib.ListN.{length}
 use Rattle.reading.specs.Counters.{Counter}
 use Rattle.reading.specs.Counters as k
-use Rattle.reading.specs.Grammar.{Piece, TheReading}
-use Rattle.reading.specs.Counts.{Rest, left, open_in, count, count_since, ledger_of, endings}
+use Rattle.reading.specs.Counts.{left, open_in, count}
 use Rattle.reading.proofs.Reader.{pieces, pieces_of}
 use Rattle.reading.proofs.Once.{the-reading}
 use Rattle.reading.proofs.Books.{balance}
@@ -16,8 +15,8 @@ use Rattle.link_receive.specs.declared.State.TheVariants.{Idle, Noise, StartOfFr
 use Rattle.link_receive.specs.declared.Receiver.{Receiver}
 use Rattle.link_receive.specs.Tally.{tally_of}
 use Rattle.link_receive.specs.Step.{rules_of, open_of}
-use Rattle.books.specs.Stands.{rest_of, rest_at, Since, After}
-use Rattle.books.specs.Ledgers.{ledger_at, numbers_of, Ledgered}
+use Rattle.books.specs.Stands.{rest_of, After}
+use Rattle.books.specs.Ledgers.{ledger_at, Ledgered}
 use Rattle.books.proofs.Run.{tallies-exact}
 
 open_of-rest_of : (s : State) (body : List ℕ) → open_of s ≡ open_in (rest_of s body)

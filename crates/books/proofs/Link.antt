@@ -1,8 +1,8 @@
 -- A step of the receiver is a step of the grammar's machine: it stands where the machine does, its tallies are raised for the machine's
 -- events, and it hands out the frames of the bodies that the machine closes soundly. Over any check. Assumes nothing.
-use mathlib.Core.Path.{◌≡◌, refl, sym, ◌∙◌, ap}
-use Prim.Native.Nat.{ℕ, suc, ◌+◌, ◌≤◌, ◌<◌, ◌-◌}
-use mathlib.Core.Bool.{Bool, true, false, cond}
+use mathlib.Core.Path.{◌≡◌, refl, ap}
+use Prim.Native.Nat.{ℕ, ◌+◌, ◌≤◌}
+use mathlib.Core.Bool.{Bool, true, false}
 use mathlib.Core.List.{List, [], ◌∷◌, ◌++◌, map}
 use native.Mathlib.Omega.{arith}
 use native.Mathlib.Numerals.{add-one}
@@ -14,11 +14,9 @@ use Rattle.escaping.specs.Escapes.{Meaning, datum, opener, closer, neither, mean
 use Rattle.laws.specs.Bytes.{be16_at}
 use Rattle.address.specs.Address.{address_of}
 use Rattle.link.specs.Wire.{frame_of}
-use Rattle.reading.specs.Counters.{Counter}
-use Rattle.reading.specs.Counters as k
 use Rattle.reading.specs.Grammar.{Rules}
-use Rattle.reading.specs.Counts.{Verdict, runt, checksum, sound, verdict, Rest, inside, inside_7e}
-use Rattle.reading.proofs.Machine.{Event, counted, closes, Beat, beat}
+use Rattle.reading.specs.Counts.{Verdict, runt, checksum, sound, verdict, inside}
+use Rattle.reading.proofs.Machine.{Event, closes, Beat, beat}
 use Rattle.reading.proofs.Books.{counter_of_event, bodies}
 use Rattle.link_receive.specs.declared.State.{State}
 use Rattle.link_receive.specs.declared.State.TheVariants.{Idle, Noise, StartOfFrame, Frame, FrameEscape, Giant, GiantEscape}

@@ -1,19 +1,16 @@
 -- A feeding is the drained run of the bytes that it takes, and hands out the frames of these alone. Over any check. Assumes nothing.
 use mathlib.Core.Path.{◌≡◌, refl, sym, ◌∙◌, ap}
-use Prim.Native.Nat.{ℕ, suc, ◌+◌, ◌≤◌}
-use mathlib.Core.Bool.{Bool, true, false}
-use mathlib.Core.List.{List, [], ◌∷◌, ◌++◌, append-nil}
+use Prim.Native.Nat.{ℕ, suc, ◌+◌}
+use mathlib.Core.List.{List, [], ◌∷◌, append-nil}
 use native.Mathlib.Omega.{arith}
-use native.Mathlib.Numerals.{add-one}
-use lib.ListN.{length, take}
-use Rattle.link.specs.Wire.{Frame}
+use lib.ListN.{take}
 use Rattle.link_receive.specs.declared.Answer.{Answer}
 use Rattle.link_receive.specs.declared.Answer.TheVariants as answer
 use Rattle.link_receive.specs.declared.Receiver.{Receiver}
 use Rattle.link_feed.specs.declared.Fed.{Fed}
 use Rattle.link_receive.specs.Step.{Within, step_of}
 use Rattle.link_receive.specs.Frames.{handed_out}
-use Rattle.link_feed.specs.Feed.{stopped, fed_on, feed_from, feed_of}
+use Rattle.link_feed.specs.Feed.{fed_on, feed_from, feed_of}
 use Rattle.link_feed.specs.Drain.{drain_of, frames_of, frames_fed}
 use Rattle.link_feed.proofs.Feeds.{feed_of-within}
 use Rattle.link_feed.proofs.Drains.{Steady, step_of-steady}

@@ -1,19 +1,18 @@
 -- An encoded frame, fed to any receiver that is Idle or in Noise and not refused by 12, is handed out as exactly that frame.
 -- Over any check. Assumes nothing.
 use mathlib.Core.Path.{◌≡◌, refl, sym, ◌∙◌, ap}
-use Prim.Native.Nat.{ℕ, suc, ◌+◌, ◌≤◌, ◌<◌, ◌-◌}
-use mathlib.Core.Bool.{Bool, true, false}
+use Prim.Native.Nat.{ℕ, suc, ◌+◌, ◌≤◌}
 use mathlib.Core.List.{List, [], ◌∷◌, ◌++◌, append-nil}
 use native.Mathlib.Omega.{arith}
 use lib.ListN.{length, take, length-append}
 use Rattle.escaping.specs.Escapes.{meaning}
 use Rattle.address.specs.Address.{id_limit, gateway_of}
-use Rattle.link.specs.Wire.{Frame, frame_of, body_of, encoded_of}
+use Rattle.link.specs.Wire.{Frame, body_of, encoded_of}
 use Rattle.link.proofs.Body.{frame_of-body_of}
 use Rattle.reading.specs.Counters as k
 use Rattle.reading.specs.Grammar.{Line, idle, noisy}
 use Rattle.reading.specs.Counts.{Rest, out, out_7e, inside, inside_7e, over, over-7e, sound}
-use Rattle.reading.proofs.Machine.{Event, counted, closes, Beat, run, reach}
+use Rattle.reading.proofs.Machine.{counted, closes, Beat, run}
 use Rattle.reading.proofs.Books.{bodies}
 use Rattle.reading.proofs.ReadBack.{almost_of, encoded_of-almost_of, goes-encoded_of, goes-almost_of}
 use Rattle.link_receive.specs.declared.State.{State}
@@ -21,8 +20,6 @@ use Rattle.link_receive.specs.declared.State.TheVariants as state
 use Rattle.link_receive.specs.declared.Answer.{Answer}
 use Rattle.link_receive.specs.declared.Answer.TheVariants as answer
 use Rattle.link_receive.specs.declared.Receiver.{Receiver}
-use Rattle.link_receive.specs.declared.Tallies.{Tallies}
-use Rattle.link_receive.specs.Tally.{raise}
 use Rattle.link_receive.specs.declared.Stepped.{Stepped}
 use Rattle.link_feed.specs.declared.Fed.{Fed}
 use Rattle.link_receive.specs.declared.Parsed.{Parsed}

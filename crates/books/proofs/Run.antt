@@ -1,19 +1,18 @@
 -- A run of steps is a run of the grammar's machine, and so what bytes lead to, block by block. Over any check. Assumes nothing.
 use mathlib.Core.Path.{◌≡◌, refl, sym, ◌∙◌, ap}
-use Prim.Native.Nat.{ℕ, ◌+◌, ◌≤◌, ◌<◌, ◌%◌, ◌^◌, ◌-◌}
+use Prim.Native.Nat.{ℕ, ◌+◌, ◌<◌, ◌%◌, ◌^◌}
 use mathlib.Core.Bool.{Bool, true, false, cond}
-use mathlib.Core.List.{List, [], ◌∷◌, ◌++◌, map, append_assoc, append-nil}
+use mathlib.Core.List.{List, [], ◌∷◌, ◌++◌, map, append_assoc}
 use native.Mathlib.Omega.{arith}
-use lib.ListN.{length, length-append}
-use lib.Dec.{eqb}
+use lib.ListN.{length}
 use borrow.Author.Tests.{eqb-true, eqb-false}
 use Rattle.laws.specs.Wrap.{raised}
 use Rattle.link.specs.Wire.{frame_of}
 use Rattle.link.specs.Wire as wire
 use Rattle.reading.specs.Counters.{Counter, index_of, same}
 use Rattle.reading.specs.Counters as k
-use Rattle.reading.specs.Grammar.{Piece, Reading, TheReading}
-use Rattle.reading.specs.Counts.{one, count, count_since, sound_bodies, sound_frames, left}
+use Rattle.reading.specs.Grammar.{Piece, Reading}
+use Rattle.reading.specs.Counts.{one, count_since, sound_bodies, sound_frames, left}
 use Rattle.reading.proofs.Reader.{pieces_of}
 use Rattle.reading.proofs.Once.{the-reading}
 use Rattle.reading.proofs.Machine.{Event, Beat, beat, run, reach}
@@ -25,7 +24,7 @@ use Rattle.link_receive.specs.Step.{room, rules_of, Within, step_of}
 use Rattle.link_receive.proofs.Rules.{rules_of-step}
 use Rattle.link_feed.specs.Drain.{drain_of, frames_of}
 use Rattle.link_feed.proofs.Drains.{rules_of-drain}
-use Rattle.books.specs.Stands.{rest_at, Since, After}
+use Rattle.books.specs.Stands.{rest_at, Since}
 use Rattle.books.proofs.Link.{raised_by, Linked, link}
 
 raised_by-append : (es fs : List Event) (t : Tallies) → raised_by (es ++ fs) t ≡ raised_by fs (raised_by es t)

@@ -1,19 +1,18 @@
 -- What an accepted `encode` wrote: the frame's wire form, of a payload within the limit. Over any check. Assumes nothing.
-use mathlib.Core.Path.{◌≡◌, refl, sym, ◌∙◌, ap}
-use Prim.Native.Nat.{ℕ, ◌≤◌, ◌<◌}
-use mathlib.Core.Bool.{Bool, true, false, cond}
-use mathlib.Core.List.{List, ◌++◌}
+use mathlib.Core.Path.{◌≡◌, refl}
+use Prim.Native.Nat.{ℕ, ◌≤◌}
+use mathlib.Core.Bool.{Bool, true, false}
+use mathlib.Core.List.{List}
 use native.Mathlib.Omega.{arith}
 use lib.ListN.{length, take, drop}
 use lib.Seq.{take-append_seam}
 use lib.Dec.{ltb}
 use borrow.Author.Tests.{ltb-false}
-use Rattle.laws.specs.Bytes.{laid_over}
-use Rattle.laws.specs.Handed.{Handed, refused, value}
+use Rattle.laws.specs.Handed.{refused, value}
 use Rattle.address.specs.Address.{id_limit, gateway_of}
 use Rattle.address.specs.declared.Address.{Address}
 use Rattle.link.specs.Wire.{payload_limit, encoded_of}
-use Rattle.link.specs.Handed.{frame_for, written_handed, written_bytes, numbered_handed, numbered_bytes, encode_handed, encode_bytes}
+use Rattle.link.specs.Handed.{frame_for, numbered_handed, numbered_bytes, encode_handed, encode_bytes}
 
 no_value : (m n : ℕ) → refused m ≡ value n → ⊥
 no_value m n e = let z : ◌≡◌ {A = ℕ} 0 1 = cc in omega arith

@@ -1,8 +1,6 @@
 -- The contract of taking a block in frame by frame. Over any check. Assumes nothing.
-use Rattle.std.specs.Prelude.{◌≡◌, ℕ, ◌≤◌, List, ◌++◌, length, take}
-use Rattle.reading.specs.Grammar.{Piece, Reading}
+use Rattle.std.specs.Prelude.{◌≡◌, ℕ, List, ◌++◌, take}
 use Rattle.reading.specs.Counts.{sound_frames}
-use Rattle.link_receive.specs.declared.Answer.TheVariants.{Nothing}
 use Rattle.link_receive.specs.declared.Receiver.{Receiver}
 use Rattle.link_feed.specs.declared.Fed.{Fed}
 use Rattle.link_feed.specs.Feed.{feed_of}

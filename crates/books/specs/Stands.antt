@@ -1,5 +1,5 @@
 -- A receiver in the grammar's terms: where it stands, and what bytes lead to it. Over any check. Assumes nothing.
-use Rattle.std.specs.Prelude.{◌≡◌, ℕ, ◌≤◌, ◌%◌, ◌^◌, List, [], ◌++◌, length, take}
+use Rattle.std.specs.Prelude.{◌≡◌, ℕ, ◌%◌, ◌^◌, List, [], ◌++◌, length, take}
 use Rattle.reading.specs.Counters.{Counter}
 use Rattle.reading.specs.Grammar.{idle, noisy, Piece, TheReading}
 use Rattle.reading.specs.Counts.{Rest, out, out_7e, inside, inside_7e, over, over-7e, left, count_since}
