@@ -14,8 +14,8 @@ exchanges() {
 command_frames|2|command_key(gateway, sequence)|command_key(sequence, gateway)
 plain_frames|1|by_type(counters, from, gateway, frame_type, payload)|by_type(counters, from, frame_type, gateway, payload)
 transport_receiver|1|untabled(counters, from, gateway, frame_type, payload)|untabled(counters, from, frame_type, gateway, payload)
-transport_receiver|1|from, gateway, frame_type,|from, frame_type, gateway,
-transport_receiver|1|address, frame_type,|frame_type, address,
+transport_receiver|1|        gateway, frame_type, payload,|        frame_type, gateway, payload,
+transport_receiver|1|            address,\n            frame_type,\n|            frame_type,\n            address,\n
 CALLS
 }
 
@@ -101,6 +101,7 @@ while IFS='|' read -r crate times call exchanged; do
     python3 - "$work/mix/crates/$crate/src/lib.rt" "$times" "$call" "$exchanged" <<'PY'
 import sys
 path, times, call, exchanged = sys.argv[1:]
+call, exchanged = call.replace("\\n", "\n"), exchanged.replace("\\n", "\n")
 text = open(path, encoding="utf-8").read()
 if text.count(call) != int(times):
     sys.exit(f"kinds: the call stands there {text.count(call)} times, not {times}: {call}")
