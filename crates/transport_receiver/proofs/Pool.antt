@@ -4,14 +4,14 @@ use Prim.Native.Nat.{ℕ, zero, suc, ◌+◌, ◌-◌, ◌*◌, ◌≤◌, ◌<�
 use mathlib.Core.Bool.{Bool, true, false, cond, not, ◌&&◌}
 use mathlib.Core.List.{List, [], ◌∷◌, ◌++◌, append_assoc}
 use native.Mathlib.Omega.{arith}
-use lib.ListN.{length, get_or, set, take, drop, length-take, length-drop, length-append, get_or-append, get_or-eq_default}
-use lib.Seq.{paste, length-paste, drop-paste, take-paste, get_or-take, get_or-drop, get_or-set_same, get_or-set_other, take_all, take-length, length-take-le, drop_at, take_at, drop-drop, ext_get_or}
+use lib.ListN.{length, get_or, set, take, drop, length-take, length-drop, get_or-append, get_or-eq_default}
+use lib.Seq.{paste, length-paste, drop-paste, get_or-take, get_or-drop, get_or-set_same, get_or-set_other, take-length, length-take-le, drop_at, take_at, drop-drop, ext_get_or}
 use lib.Dec.{eqb, ltb}
-use borrow.Author.Tests.{eqb-true, eqb-false, eq-eqb, ne_eqb, lt-ltb, le-ltb, ltb-true, ltb-false}
+use borrow.Author.Tests.{ne_eqb, lt-ltb, le-ltb, ltb-true, ltb-false}
 use Rattle.answers.specs.Stored.{kept_limit, stride, pool_size}
 use Rattle.laws.proofs.Cases.{by}
-use Rattle.tables.specs.Keys.{first_of, seat_of, over_of}
-use Rattle.tables.specs.Places.{Place, free, held, place_of, places_from, places_of, stored}
+use Rattle.tables.specs.Keys.{seat_of, over_of}
+use Rattle.tables.specs.Places.{place_of, places_from, places_of, stored}
 use Rattle.tables.proofs.Places.{stored-places}
 use Rattle.transport_receiver.specs.State.{Command, command_in, payload_at}
 use Rattle.transport_receiver.specs.Step.{is_over, is_over_limit}

@@ -1,15 +1,15 @@
 -- What the step does to the arrays is what 01's step does to the tables that they mean, type by type. Assumes nothing.
-use mathlib.Core.Path.{◌≡◌, refl, sym, ◌∙◌, ap}
-use Prim.Native.Nat.{ℕ, zero, suc, ◌+◌, ◌*◌, ◌≤◌, ◌<◌}
-use mathlib.Core.Bool.{Bool, true, false, cond, not, ◌&&◌, ◌||◌}
-use mathlib.Core.List.{List, [], ◌∷◌}
+use mathlib.Core.Path.{◌≡◌, sym, ◌∙◌}
+use Prim.Native.Nat.{ℕ, suc, ◌≤◌, ◌<◌}
+use mathlib.Core.Bool.{Bool, true, false}
+use mathlib.Core.List.{List}
 use native.Mathlib.Omega.{arith}
-use lib.ListN.{length, get_or, set, take, drop, length-drop}
+use lib.ListN.{length, get_or, drop, length-drop}
 use lib.Dec.{eqb, ltb}
-use borrow.Author.Tests.{eqb-true, eqb-false, eq-eqb, ne_eqb, lt-ltb, le-ltb, ltb-true, ltb-false}
+use borrow.Author.Tests.{eqb-true, eq-eqb, ne_eqb, ltb-true, ltb-false}
 use Rattle.laws.specs.Bytes.{be16_at}
 use Rattle.tables.specs.Keys.{first_of, seat_of, over_of}
-use Rattle.tables.specs.Places.{Place, free, held, has_room, is_held, places_of, value_at}
+use Rattle.tables.specs.Places.{places_of, value_at}
 use Rattle.tables.proofs.Laws.{first_holds}
 use Rattle.tables.proofs.Places.{has_room-places, is_held-places, stored-numbers, stored-again, replaced-numbers, value_at-held, value_at-none, removed-places, seat-held, seat-new}
 use Rattle.utf8.specs.Scan.{is_text}
@@ -24,8 +24,8 @@ use Rattle.answers.specs.Stored.{command_key, kept_limit, pool_size}
 use Rattle.receive_frames.specs.Receive.{captured_in, receive_request_in, answered_in, receive_response_in, good_in}
 use Rattle.command_frames.specs.Command.{is_last_in, note_in, keep_in, asked_in, command_request_in, finished_in, command_response_in}
 use Rattle.plain_frames.specs.Plain.{identity_in, enumeration_end_in, version_in, enumeration_start_in, count_in, by_type_in, untabled_in}
-use Rattle.transport_receiver.specs.State.{State, Frame, state_of, command_in}
-use Rattle.transport_receiver.specs.Step.{Result, step_of, handled_of, is_last, is_over_limit, reset_of}
+use Rattle.transport_receiver.specs.State.{Frame, state_of, command_in}
+use Rattle.transport_receiver.specs.Step.{step_of, handled_of, is_last, is_over_limit, reset_of}
 use Rattle.transport_receiver.specs.Handed.{told, told_reset}
 use Rattle.transport_receiver.specs.Lent.{noted_of, seated_of, after_asked, after_counted, after_requested, after_answered, after_received, handled_in, step_in, reset_in}
 use Rattle.transport_receiver.specs.declared.Receiver.{Receiver}

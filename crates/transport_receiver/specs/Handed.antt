@@ -3,7 +3,7 @@ use Rattle.std.specs.Prelude.{ℕ, cond, List, drop}
 use Rattle.laws.specs.Numbers.{over_limit}
 use Rattle.layouts.specs.Layouts.{long_address, response_data}
 use Rattle.transport_receiver.specs.State.{Frame, state_of, payload_at}
-use Rattle.transport_receiver.specs.Step.{Event, enumeration_started, identity, version, enumeration_ended, slot_captured, slot_counter, command, Outcome, refused, refused_with, silent, event, Result, refused_as}
+use Rattle.transport_receiver.specs.Step.{enumeration_started, identity, version, enumeration_ended, slot_captured, slot_counter, command, Outcome, refused, refused_with, silent, event, Result, refused_as}
 use Rattle.transport_receiver.specs.declared.Stepped.{Stepped}
 use Rattle.transport_receiver.specs.declared.WasReset.{WasReset}
 use Rattle.answers.specs.declared.Answer.{Answer}

@@ -1,9 +1,9 @@
 -- What a sound frame means: 01's refusals in their order, and what an accepted frame does. Assumes nothing.
-use Rattle.std.specs.Prelude.{ℕ, Bool, true, false, cond, not, ◌&&◌, ◌||◌, List, [], ◌∷◌, length, get_or, take, drop, replicate, eqb, ltb}
+use Rattle.std.specs.Prelude.{ℕ, Bool, true, false, cond, not, ◌&&◌, ◌||◌, List, [], ◌∷◌, length, drop, replicate, eqb, ltb}
 use Rattle.std.proofs.Math.Option.{Option, none, some}
 use Rattle.laws.specs.Bytes.{be16_at}
 use Rattle.laws.specs.Numbers.{Refusal, number_of as refusal_number, over_limit, invalid_id, wrong_direction, wrong_length, wrong_status, too_short, unknown_gateway, numbers_full, sequences_full, commands_full, names_from, no_text, no_request, unhandled_type, payload_too_long}
-use Rattle.address.specs.Address.{id_limit, gateway_of, is_from, address_of}
+use Rattle.address.specs.Address.{id_limit, gateway_of, is_from}
 use Rattle.link.specs.Wire.{payload_limit}
 use Rattle.utf8.specs.Scan.{is_text}
 use Rattle.transport.specs.Status.{accepted_of, needed_of, slot_counter_at}

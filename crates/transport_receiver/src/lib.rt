@@ -297,9 +297,8 @@ impl Receiver {
         ensures exactly { result ≡ reset_in self }
         ensures means { told_reset result ≡ reset_of (state_of self) }
     {
-        let w = self.commands;
-        let ckeys = w.keys;
-        let clengths = w.lengths;
+        let ckeys = self.commands.keys;
+        let clengths = self.commands.lengths;
         let mut counters = self.counters;
         let over = reset_in(&ckeys, &clengths, &mut counters);
         self.counters = counters;
