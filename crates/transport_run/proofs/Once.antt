@@ -1,19 +1,17 @@
 -- A refusal touches no table; a command is executed once, until a new request is stored under its key. Assumes nothing.
-use mathlib.Core.Path.{◌≡◌, refl, sym, ◌∙◌, ap}
+use mathlib.Core.Path.{◌≡◌, refl, sym, ◌∙◌}
 use Prim.Native.Nat.{ℕ}
-use mathlib.Core.Bool.{Bool, true, false, cond, not}
+use mathlib.Core.Bool.{true, false}
 use mathlib.Core.List.{List, [], ◌∷◌}
 use mathlib.Core.Option.{Option, none, some}
-use native.Mathlib.Omega.{arith}
 use lib.ListN.{length}
-use lib.Dec.{eqb, ltb}
-use borrow.Author.Tests.{eqb-true, eqb-false}
+use lib.Dec.{ltb}
 use Rattle.laws.proofs.Cases.{by, never}
-use Rattle.tables.specs.Places.{is_held, value_at, removed, stored, Distinct}
+use Rattle.tables.specs.Places.{is_held, value_at, removed, Distinct}
 use Rattle.tables.proofs.Maps.{value_at-stored-other, value_at-removed-unheld, unheld-value_at, value_at-unheld, is_held-removed}
 use Rattle.answers.specs.Types
 use Rattle.transport_receiver.specs.State.{State, Frame, Command}
-use Rattle.transport_receiver.specs.Step.{Event, is_refusal, Outcome, refused, refused_with, silent, event, Result, Row, rows_of_any, rows_of_type, judged, accepted, executed_of, step_of, reset_of, is_over_limit, key_of, request_of, frame, reset}
+use Rattle.transport_receiver.specs.Step.{Event, is_refusal, event, Result, Row, rows_of_any, rows_of_type, judged, accepted, executed_of, step_of, reset_of, is_over_limit, key_of, request_of, frame, reset}
 use Rattle.transport_receiver.proofs.Cases.{accepted-cases, judged-cases}
 use Rattle.transport_run.specs.Reached.{Since, here, on}
 use Rattle.transport_run.proofs.Reached.{clash}

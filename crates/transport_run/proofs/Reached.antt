@@ -1,13 +1,13 @@
 -- From fresh no table ever holds two places of one key; a response that found its request gets 30 the next time. Assumes nothing.
-use mathlib.Core.Path.{◌≡◌, refl, sym, ◌∙◌, ap}
-use Prim.Native.Nat.{ℕ, zero, suc, ◌≤◌, ◌<◌}
-use mathlib.Core.Bool.{Bool, true, false, cond, not}
+use mathlib.Core.Path.{◌≡◌}
+use Prim.Native.Nat.{ℕ, zero, suc}
+use mathlib.Core.Bool.{Bool, true, false, cond}
 use mathlib.Core.List.{List, [], ◌∷◌}
 use native.Mathlib.Omega.{arith}
 use lib.ListN.{length, get_or, set, replicate, get_or-replicate, length-replicate, get_or-eq_default}
-use lib.Dec.{eqb, ltb}
+use lib.Dec.{ltb}
 use borrow.Author.Tests.{ltb-true, ltb-false}
-use Rattle.tables.specs.Places.{Place, free, held, holds, place_of, places_of, is_held, stored, removed, value_at, Distinct}
+use Rattle.tables.specs.Places.{Place, free, holds, places_of, is_held, value_at, Distinct}
 use Rattle.laws.specs.Bytes.{be16_at}
 use Rattle.transport.specs.Number.{number_of}
 use Rattle.tables.proofs.Places.{get_or-places}
@@ -15,7 +15,7 @@ use Rattle.tables.proofs.Maps.{distinct-stored, distinct-removed, is_held-remove
 use Rattle.layouts.specs.Layouts.{request_sequence}
 use Rattle.answers.specs.Types
 use Rattle.transport_receiver.specs.State.{State, Frame, Command, state_of, fresh}
-use Rattle.transport_receiver.specs.Step.{Event, Outcome, refused, event, Result, Row, rows_of_any, rows_of_type, judged, accepted, counting, step_of, reset_of, is_over, is_over_limit, gateway_key_of, key_of, status_of, number_in, request_of, frame, reset}
+use Rattle.transport_receiver.specs.Step.{Event, refused, event, Result, rows_of_any, rows_of_type, accepted, step_of, reset_of, is_over, is_over_limit, gateway_key_of, key_of, status_of, number_in, request_of, frame, reset}
 use Rattle.transport_receiver.proofs.Cases.{accepted-cases, judged-cases}
 use Rattle.transport_run.specs.Reached.{Reached, start, on, AllDistinct}
 use Rattle.laws.proofs.Cases.{by}

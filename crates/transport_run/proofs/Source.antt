@@ -1,8 +1,8 @@
 -- Up to the first added refusal the receiver is the source's: its tables are the finite maps, its counters the source's counters, and its events
 -- what the source tells its sink. Assumes nothing.
-use mathlib.Core.Path.{◌≡◌, refl, sym, ◌∙◌, ap, subst}
+use mathlib.Core.Path.{◌≡◌, refl, ◌∙◌, subst}
 use Prim.Native.Nat.{ℕ}
-use mathlib.Core.Bool.{Bool, true, false, cond, not}
+use mathlib.Core.Bool.{true, false}
 use mathlib.Core.List.{List, []}
 use mathlib.Core.Option.{Option, none, some, get_or}
 use native.Mathlib.Omega.{arith}
@@ -20,7 +20,7 @@ use Rattle.layouts.specs.Layouts.{request_sequence}
 use Rattle.answers.specs.Counters.{counter_count}
 use Rattle.answers.specs.Types
 use Rattle.answers.specs.Types.{counter_of}
-use Rattle.transport_receiver.specs.State.{State, Frame, Command, state_of, fresh}
+use Rattle.transport_receiver.specs.State.{State, Frame, state_of, fresh}
 use Rattle.transport_receiver.specs.Step.{event_of, Result, step_of, reset_of, is_over_limit, gateway_key_of, key_of, answer_key_of, status_of, request_of, frame, reset}
 use Rattle.transport_run.specs.Reached.{AllDistinct}
 use Rattle.transport_run.specs.Source.{Maps, Source, Taken, source_of, is_added, Agree, no_entries, fresh_source, Follows, start, on}

@@ -1,6 +1,6 @@
 -- The source's receiver (transport/receiver.rs): its three maps, which have no limit, by what a look-up gives, and its counters; and what a frame
 -- does to it and tells its sink. Assumes nothing.
-use Rattle.std.specs.Prelude.{◌≡◌, ℕ, Bool, true, false, cond, not, ◌&&◌, List, [], ◌∷◌, length, drop, replicate, eqb, ltb}
+use Rattle.std.specs.Prelude.{◌≡◌, ℕ, Bool, true, false, cond, List, [], ◌∷◌, length, drop, replicate, eqb, ltb}
 use Rattle.std.proofs.Math.Option.{Option, none, some}
 use Rattle.laws.specs.Bytes.{be16_at}
 use Rattle.laws.specs.Numbers.{Refusal, number_of as refusal_number, over_limit, numbers_full, sequences_full, commands_full, payload_too_long}
