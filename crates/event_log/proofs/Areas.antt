@@ -15,7 +15,7 @@ use Rattle.network.specs.Split.{packet_size, packets_of, found_at}
 use Rattle.network.proofs.Split.{packets_of-packet, packets_of-rest, whole-front}
 use Rattle.network.proofs.Walk.{packets_of-seen, found_at-ahead}
 use Rattle.sound_record.specs.Record.{written, sound_at}
-use Rattle.sound_record.specs.Log.{all_sound-true}
+use Rattle.sound_record.specs.Log.{all_sound}
 use Rattle.sound_record.proofs.Soundness.{body_start-written}
 use Rattle.event_record.specs.Event.{record_of, packet}
 use Rattle.event_record.proofs.Written.{length-framed}
@@ -100,7 +100,7 @@ module _ (g : ℕ) (h : g ≤ 0x7fff) where
   -- and so is the one at a place
   pub sound-found : (a : List ℕ) → Bytes a → (at d e : ℕ) → found_at a at ≡ Packet d e → sound_at written (record_of written g (packet (take (e - at) (drop at a)))) ≡ true
   sound-found a b at d e f =
-      head-sound (sound_at written (record_of written g (packet (take (e - at) (drop at a))))) (all_sound-true (sound_at written) (listed written (packets_at g (packets_of (drop e a)).packets))) (rw (packets_of-seen a at, f) at (none-unsound (drop at a) (bytes_drop at a b)))
+      head-sound (sound_at written (record_of written g (packet (take (e - at) (drop at a))))) (all_sound (sound_at written) (listed written (packets_at g (packets_of (drop e a)).packets))) (rw (packets_of-seen a at, f) at (none-unsound (drop at a) (bytes_drop at a b)))
     where
       head-sound : (t u : Bool) → not (t && u) ≡ false → t ≡ true
       head-sound true u q = refl

@@ -10,10 +10,10 @@ use native.Mathlib.Omega.{arith}
 use lib.ListN.{length, get_or}
 use borrow.Author.Tests.{not-false}
 use Rattle.sound_record.specs.Record.{written, sound_at}
-use Rattle.sound_record.specs.Log.{joined, all_sound-true, Here, Finds}
+use Rattle.sound_record.specs.Log.{joined, all_sound, Here, Finds}
 use Rattle.event_record.specs.Event.{gateway_in, says_of}
 use Rattle.sound_record.proofs.Soundness.{both}
-use Rattle.sound_record.proofs.Log.{joined-append, all_sound-true-append, log-finds}
+use Rattle.sound_record.proofs.Log.{joined-append, all_sound-append, log-finds}
 use Rattle.event_record.proofs.Told.{gateway-record, says-record}
 use Rattle.event_log.specs.Records.{Entry, entry_bytes, listed, bytes_of, any_unsound}
 
@@ -40,19 +40,19 @@ found-holds log at (x ∷ xs) f = (
   found-holds log (at + length (entry_bytes written x)) xs f.1,
 )
 
-all_sound-true-true : (xs : List Entry) → any_unsound xs ≡ false → all_sound-true (sound_at written) (listed written xs) ≡ true
-all_sound-true-true xs s = not-false (all_sound-true (sound_at written) (listed written xs)) s
+all_sound-true : (xs : List Entry) → any_unsound xs ≡ false → all_sound (sound_at written) (listed written xs) ≡ true
+all_sound-true xs s = not-false (all_sound (sound_at written) (listed written xs)) s
 
 -- the bytes of records of which none is unsound
 pub log-holds : (xs : List Entry) → any_unsound xs ≡ false → Holds (bytes_of written xs) 0 xs
-log-holds xs s = found-holds (bytes_of written xs) 0 xs (log-finds written (listed written xs) (all_sound-true-true xs s))
+log-holds xs s = found-holds (bytes_of written xs) 0 xs (log-finds written (listed written xs) (all_sound-true xs s))
 
 -- each of them is sound
 pub each-sound : (xs : List Entry) → any_unsound xs ≡ false → (i : ℕ) (d : Entry) → i < length xs → sound_at written (entry_bytes written (get_or xs i d)) ≡ true
 each-sound [] s i d l = absurd (omega arith)
-each-sound (x ∷ xs) s zero d l = (both (sound_at written (entry_bytes written x)) (all_sound-true (sound_at written) (listed written xs)) (all_sound-true-true (x ∷ xs) s)).0
+each-sound (x ∷ xs) s zero d l = (both (sound_at written (entry_bytes written x)) (all_sound (sound_at written) (listed written xs)) (all_sound-true (x ∷ xs) s)).0
 each-sound (x ∷ xs) s (suc i) d l =
-    each-sound xs (ap not (both (sound_at written (entry_bytes written x)) (all_sound-true (sound_at written) (listed written xs)) (all_sound-true-true (x ∷ xs) s)).1) i d (le_of_suc-le-suc l)
+    each-sound xs (ap not (both (sound_at written (entry_bytes written x)) (all_sound (sound_at written) (listed written xs)) (all_sound-true (x ∷ xs) s)).1) i d (le_of_suc-le-suc l)
 
 -- a log written in two goes is one log
 listed-append : (v : ℕ) (xs ys : List Entry) → listed v (xs ++ ys) ≡ listed v xs ++ listed v ys
@@ -64,5 +64,5 @@ bytes_of-append v xs ys = ap joined (listed-append v xs ys) ∙ joined-append (l
 
 pub none-unsound-append : (xs ys : List Entry) → any_unsound xs ≡ false → any_unsound ys ≡ false → any_unsound (xs ++ ys) ≡ false
 none-unsound-append xs ys s t =
-    ap (λ (l : List (List ℕ)). not (all_sound-true (sound_at written) l)) (listed-append written xs ys)
-    ∙ ap not (all_sound-true-append (sound_at written) (listed written xs) (listed written ys) (all_sound-true-true xs s) (all_sound-true-true ys t))
+    ap (λ (l : List (List ℕ)). not (all_sound (sound_at written) l)) (listed-append written xs ys)
+    ∙ ap not (all_sound-append (sound_at written) (listed written xs) (listed written ys) (all_sound-true xs s) (all_sound-true ys t))

@@ -7,7 +7,7 @@ use Rattle.laws.specs.Numbers.{row, judged, invalid_id, no_room_for_record, unso
 use Rattle.address.specs.Address.{id_limit}
 use Rattle.network.specs.Split.{packets_of}
 use Rattle.sound_record.specs.Record.{written, body_start, sound_at}
-use Rattle.sound_record.specs.Log.{joined, all_sound-true}
+use Rattle.sound_record.specs.Log.{joined, all_sound}
 use Rattle.event_record.specs.Event.{record_of}
 use Rattle.event_record.specs.Event as kind
 use Rattle.transport_receiver.specs.Step.{Event, enumeration_started, identity, version, enumeration_ended, slot_captured, slot_counter, command}
@@ -62,7 +62,7 @@ any_over (x ∷ xs) = cond (ltb id_limit x.gateway) true (any_over xs)
 
 -- 41: one of the records would not be sound
 abbrev pub any_unsound : List Entry → Bool
-any_unsound xs = not (all_sound-true (sound_at written) (listed written xs))
+any_unsound xs = not (all_sound (sound_at written) (listed written xs))
 
 -- 01, "Numbers handed back", for an event record 13, 41, 40; of several records all or none is written: 40 if room is below their whole length
 unfoldable pub records_handed : List Entry → ℕ → Handed ℕ

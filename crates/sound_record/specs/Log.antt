@@ -10,14 +10,14 @@ joined [] = []
 joined (r ∷ rs) = r ++ joined rs
 
 -- each of the records is sound
-abbrev pub all_sound-true : (List ℕ → Bool) → List (List ℕ) → Bool
-all_sound-true sound [] = true
-all_sound-true sound (r ∷ rs) = sound r && all_sound-true sound rs
+abbrev pub all_sound : (List ℕ → Bool) → List (List ℕ) → Bool
+all_sound sound [] = true
+all_sound sound (r ∷ rs) = sound r && all_sound sound rs
 
 -- a log is a list of sound records
 pub record Log (sound : List ℕ → Bool) (log : List ℕ) : Type 0 where
   pub records : List (List ℕ)
-  pub each : all_sound-true sound records ≡ true
+  pub each : all_sound sound records ≡ true
   pub bytes : joined records ≡ log
 
 -- a reader of version v finds a record at a place of a log, and it is this one
