@@ -1,6 +1,5 @@
 -- How an address crosses a door. Assumes nothing.
 use Rattle.std.specs.Prelude.{ℕ, ◌+◌, Bool, cond}
-use Rattle.address.specs.declared.GatewayID.{GatewayID}
 use Rattle.address.specs.declared.Address.{Address}
 use Rattle.address.specs.declared.Address.TheVariants.{From, To}
 
