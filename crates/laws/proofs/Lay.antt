@@ -1,12 +1,11 @@
 -- Bytes laid over a buffer, piece by piece: the encoders' loops and copies cite these. Assumes nothing.
-use mathlib.Core.Path.{◌≡◌, refl, sym, ap, ◌∙◌}
-use mathlib.Core.List.{List, [], ◌∷◌, ◌++◌, append_assoc, append-nil}
-use Prim.Native.Nat.{ℕ, ◌+◌, ◌-◌, ◌≤◌, ◌<◌}
+use mathlib.Core.Path.{◌≡◌, sym, ap, ◌∙◌}
+use mathlib.Core.List.{List, ◌++◌, append_assoc, append-nil}
+use Prim.Native.Nat.{ℕ, ◌+◌, ◌-◌, ◌≤◌}
 use borrow.Rule.Slice.PartMut.{put_mid, mid_of}
-use native.Mathlib.Numerals.{add-one}
 use native.Mathlib.Omega.{arith}
-use lib.ListN.{length, take, drop, set, length-append, length-drop, take-append-drop, drop_of_length-le}
-use lib.Seq.{take_all, paste, take-paste, drop-paste, drop-cons, set-append_seam, append_snoc, take-append_seam, drop-append_seam, drop-append-add, drop-drop, take-length, drop-append-le}
+use lib.ListN.{length, take, drop, length-append, length-drop, take-append-drop, drop_of_length-le}
+use lib.Seq.{take_all, paste, take-paste, drop-paste, take-append_seam, drop-append-add, drop-drop, take-length, drop-append-le}
 use Rattle.laws.specs.Bytes.{laid_over}
 
 -- what is written fits, so the buffer keeps its length

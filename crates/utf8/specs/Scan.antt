@@ -1,6 +1,6 @@
 -- One pass over bytes: what it carries from byte to byte, and what it says at the end. The grammar is in Utf8.antt; that the two agree is a
 -- law (proofs/Laws.antt). Assumes nothing.
-use Rattle.std.specs.Prelude.{ℕ, ◌-◌, Bool, true, false, cond, List, [], ◌∷◌, length, eqb, ltb}
+use Rattle.std.specs.Prelude.{ℕ, ◌-◌, Bool, false, cond, List, [], ◌∷◌, length, eqb, ltb}
 use Rattle.utf8.specs.declared.Want.{Want}
 
 -- so many bytes still belong to the character, and the next of them lies from lo to hi

@@ -1,7 +1,5 @@
 -- `address::direction_of` has the bit of a From address. Assumes nothing.
-use mathlib.Core.Path.{◌≡◌}
 use native.Mathlib.Omega.{arith}
-use borrow.Author.Rules.{rules}
 use Rattle.address.proofs.direction_of.Goals as goal
 
 pub returns-in-From : goal.returns-in-From

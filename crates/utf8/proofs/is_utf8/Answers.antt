@@ -1,13 +1,8 @@
 -- `utf8::is_utf8` is true exactly of UTF-8: what the pass says of the bytes left, from what it carries, is what it says of all of them, and the pass
 -- accepts what the grammar divides into characters. Assumes nothing.
-use mathlib.Core.Path.{◌≡◌, refl, sym, ◌∙◌, ap}
-use mathlib.Core.Bool.{true, false}
-use Prim.Native.Nat.{ℕ, ◌≤◌, ◌<◌, ◌-◌, ◌+◌}
+use mathlib.Core.Path.{◌∙◌}
 use native.Mathlib.Numerals.{add-one}
-use lib.ListN.{length, drop}
 use borrow.Author.Rules.{rules}
-use Rattle.utf8.specs.Utf8.{Utf8}
-use Rattle.utf8.specs.Scan.{between, passes}
 use Rattle.utf8.proofs.Laws.{passes-utf8, passes-cons, passes-end}
 use Rattle.utf8.proofs.is_utf8.Goals as goal
 

@@ -1,7 +1,6 @@
 -- `words::byte_at` is a byte of the list, and 0 past its end. Assumes nothing.
 use mathlib.Core.Path.{sym}
 use lib.ListN.{get_or-eq_default}
-use borrow.Author.Rules.{rules}
 use Rattle.words.proofs.byte_at.Goals as goal
 
 pub returns : goal.returns

@@ -1,7 +1,6 @@
 -- `words::word` is the number of eight bytes: four, and four more above them. Assumes nothing.
 use Prim.Native.Nat.{ℕ, ◌+◌, ◌*◌}
 use mathlib.Core.Path.{sym, ap₂, ◌∙◌}
-use borrow.Author.Rules.{rules}
 use Rattle.words.proofs.Laws.{number-none, halves}
 use Rattle.words.proofs.word.Goals as goal
 

@@ -2,7 +2,6 @@
 use mathlib.Core.Path.{sym, ap, ◌∙◌}
 use Rattle.address.specs.Handed.{handed_number}
 use Rattle.address.proofs.Laws.{bytes_handed-value, bytes_handed-refused}
-use borrow.Author.Rules.{rules}
 use Rattle.address.proofs.Address.to_be_bytes.Goals as goal
 
 pub returns-in-Number : goal.returns-in-Number

@@ -1,10 +1,9 @@
 -- `Address::to_u16` refuses an ID above 7fff, and else adds the direction bit. Assumes nothing.
-use mathlib.Core.Path.{◌≡◌, ap, ◌∙◌}
+use mathlib.Core.Path.{ap, ◌∙◌}
 use Prim.Native.Nat.{ℕ, ◌+◌}
 use borrow.Author.Tests.{lt-ltb, le-ltb}
 use Rattle.laws.specs.Handed.{value}
 use Rattle.address.specs.Handed.{number_handed}
-use borrow.Author.Rules.{rules}
 use Rattle.address.proofs.Address.to_u16.Goals as goal
 
 pub returns-then-id-gt-ID_LIMIT : goal.returns-then-id-gt-ID_LIMIT
