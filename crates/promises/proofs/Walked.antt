@@ -8,7 +8,7 @@ use prog.Memory.{Memory}
 use prog.Routine.{Routine}
 use types.Logic.{Logic}
 use contract.Monad.{Fun}
-use denote.Ref.{MutBor, at_last}
+use denote.Ref.{Bor, at_last}
 use Rattle.promises.specs.Determined.{Says, DeterminedBy, SaidBy}
 use Rattle.crc.specs.Crc.{crc_of}
 use Rattle.link_receive.specs.declared.Stepped.{Stepped}
@@ -53,7 +53,7 @@ new-said 𝓛 mem run κs a g x e = refl
 pub network-ReceivedPackets-new : DeterminedBy new.ended new-says
 network-ReceivedPackets-new κs a x y u v p q = (ap₂ walker (p.0 ∙ sym q.0) (p.1 ∙ sym q.1), refl)
   where
-    walker : MutBor (List ℕ) → ℕ → ReceivedPackets
+    walker : Bor (List ℕ) → ℕ → ReceivedPackets
     walker s n = record { area = s; at = n }
 
 abbrev next-says : Says next.ended
