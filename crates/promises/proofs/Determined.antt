@@ -1,7 +1,7 @@
 -- Each public contract determines its outcome, of whatever function a caller can name. Of `payload` and `request_payload`, which hand back a part of
--- what they are lent, it determines the bytes. Functions whose proofs are walked by hand are in Walked.antt; the doors of the comparison are not
+-- what they are lent, it determines the bytes. Four of them are in Walked.antt too, with claims written by hand; the doors of the comparison are not
 -- among them, nor those of crates/console that read or write, whose outcome is the system's. Assumes nothing.
-use mathlib.Core.Path.{◌≡◌, refl, sym, ap, ◌∙◌}
+use mathlib.Core.Path.{◌≡◌, refl, sym, ap, ap₂, ◌∙◌}
 use mathlib.Core.Bool.{Bool, true, false}
 use mathlib.Core.Logic.{◌↔◌}
 use Rattle.promises.specs.Determined.{Determined}
@@ -13,19 +13,23 @@ use Prim.Native.Nat.{ℕ}
 use mathlib.Core.List.{List}
 use lib.ListN.{drop}
 use lib.Seq.{paste}
-use denote.Ref.{at_last}
+use denote.Ref.{Bor, at_last}
 use contract.Lifetimes.{Lfts}
 use denote.Triple.Clauses.{Lasts, at_exit}
 use borrow.Fn.Kinds.{Dens, res_t, ended_of}
 use Rattle.crc.specs.Crc.{crc_of}
 use Rattle.network.specs.declared.DSN.{DSN}
 use Rattle.network.specs.declared.NodeAddress.{NodeAddress}
+use Rattle.network.specs.declared.received_packets.ReceivedPackets.{ReceivedPackets}
 use Rattle.slot_counter.specs.declared.SlotCounter.{SlotCounter}
 use Rattle.transport.specs.declared.PacketNumber.{PacketNumber}
 use Rattle.receive_frames.specs.Receive.{Asked, Received}
 use Rattle.command_frames.specs.Command.{Requested, Answered}
 use Rattle.plain_frames.specs.Plain.{Counted}
 use Rattle.transport_receiver.specs.declared.Stepped.{Stepped}
+use Rattle.link_receive.specs.declared.Stepped as by_byte
+use Rattle.link_receive.specs.declared.Tallies.{Tallies}
+use Rattle.link_feed.specs.declared.Fed.{Fed}
 use Rattle.reading.specs.Grammar.{present}
 use Rattle.console.specs.Text.{Text}
 use Rattle.promises.proofs.Ledgers.{ledgered-once}
@@ -77,6 +81,10 @@ use Rattle.link_feed.proofs.feed.Kinds as link_feed-feed-kinds
 use Rattle.link_feed.proofs.feed.Reads as link_feed-feed-reads
 use Rattle.link_feed.proofs.extend_from_slice.Kinds as link_feed-extend_from_slice-kinds
 use Rattle.link_feed.proofs.extend_from_slice.Reads as link_feed-extend_from_slice-reads
+use Rattle.lent_tallies.proofs.push_u8.Kinds as lent_tallies-push_u8-kinds
+use Rattle.lent_tallies.proofs.push_u8.Reads as lent_tallies-push_u8-reads
+use Rattle.lent_tallies.proofs.feed.Kinds as lent_tallies-feed-kinds
+use Rattle.lent_tallies.proofs.feed.Reads as lent_tallies-feed-reads
 use Rattle.books.proofs.told.Kinds as books-told-kinds
 use Rattle.books.proofs.told.Reads as books-told-reads
 use Rattle.books.proofs.absorb.Kinds as books-absorb-kinds
@@ -109,6 +117,10 @@ use Rattle.network.proofs.packet_at.Kinds as network-packet_at-kinds
 use Rattle.network.proofs.packet_at.Reads as network-packet_at-reads
 use Rattle.network.proofs.counts.Kinds as network-counts-kinds
 use Rattle.network.proofs.counts.Reads as network-counts-reads
+use Rattle.network.proofs.received_packets.ReceivedPackets.new.Kinds as network-ReceivedPackets-new-kinds
+use Rattle.network.proofs.received_packets.ReceivedPackets.new.Reads as network-ReceivedPackets-new-reads
+use Rattle.network.proofs.received_packets.ReceivedPackets.next.Kinds as network-ReceivedPackets-next-kinds
+use Rattle.network.proofs.received_packets.ReceivedPackets.next.Reads as network-ReceivedPackets-next-reads
 use Rattle.slot_counter.proofs.SlotNumber.try_from.Kinds as slot_counter-SlotNumber-try_from-kinds
 use Rattle.slot_counter.proofs.SlotNumber.try_from.Reads as slot_counter-SlotNumber-try_from-reads
 use Rattle.slot_counter.proofs.SlotNumber.get.Kinds as slot_counter-SlotNumber-get-kinds
@@ -261,6 +273,9 @@ slot_counter n = record { 0 = n }
 abbrev packet_number : ℕ → PacketNumber
 packet_number n = record { 0 = n }
 
+abbrev walker : Bor (List ℕ) → ℕ → ReceivedPackets
+walker s n = record { area = s; at = n }
+
 -- two answers true under one condition are one
 both : {U : Type 0} (x y : Bool) → (x ≡ true) ↔ U → (y ≡ true) ↔ U → x ≡ y
 both true true p q = refl
@@ -340,6 +355,16 @@ link_feed-feed κs a x y u v p q = (p ∙ sym q, refl)
 pub link_feed-extend_from_slice : Determined 1 link_feed-extend_from_slice-kinds.ps link_feed-extend_from_slice-kinds.r link_feed-extend_from_slice-reads.Learnt
 link_feed-extend_from_slice κs a x y u v p q = (p ∙ sym q, refl)
 
+pub lent_tallies-push_u8 : Determined 1 lent_tallies-push_u8-kinds.ps lent_tallies-push_u8-kinds.r lent_tallies-push_u8-reads.Learnt
+lent_tallies-push_u8 κs a x y u v p q =
+    let s : x ≡ y = p.exactly ∙ sym q.exactly in
+    (s, ap (λ (t : Tallies). (at_last a.0 t, (a.1.0, (a.1.1.0, tt)))) (p.lent ∙ ap (λ (z : by_byte.Stepped). z.next.tallies) s ∙ sym q.lent))
+
+pub lent_tallies-feed : Determined 2 lent_tallies-feed-kinds.ps lent_tallies-feed-kinds.r lent_tallies-feed-reads.Learnt
+lent_tallies-feed κs a x y u v p q =
+    let s : x ≡ y = p.exactly ∙ sym q.exactly in
+    (s, ap (λ (t : Tallies). (at_last a.0 t, (a.1.0, (a.1.1.0, tt)))) (p.lent ∙ ap (λ (z : Fed). z.next.tallies) s ∙ sym q.lent))
+
 pub books-told : Determined 0 books-told-kinds.ps books-told-kinds.r books-told-reads.Learnt
 books-told κs a x y u v p q = (p.exactly ∙ sym q.exactly, refl)
 
@@ -387,6 +412,12 @@ network-packet_at κs a x y u v p q = (p ∙ sym q, refl)
 
 pub network-counts : Determined 1 network-counts-kinds.ps network-counts-kinds.r network-counts-reads.Learnt
 network-counts κs a x y u v p q = (p ∙ sym q, refl)
+
+pub network-ReceivedPackets-new : Determined 1 network-ReceivedPackets-new-kinds.ps network-ReceivedPackets-new-kinds.r network-ReceivedPackets-new-reads.Learnt
+network-ReceivedPackets-new κs a x y u v p q = (ap₂ walker (p.0 ∙ sym q.0) (p.1 ∙ sym q.1), refl)
+
+pub network-ReceivedPackets-next : Determined 2 network-ReceivedPackets-next-kinds.ps network-ReceivedPackets-next-kinds.r network-ReceivedPackets-next-reads.Learnt
+network-ReceivedPackets-next κs a x y u v p q = (p.tells ∙ sym q.tells, ap (λ (w : ReceivedPackets). (at_last a.0 w, tt)) (p.moves ∙ sym q.moves))
 
 pub slot_counter-SlotNumber-try_from : Determined 0 slot_counter-SlotNumber-try_from-kinds.ps slot_counter-SlotNumber-try_from-kinds.r slot_counter-SlotNumber-try_from-reads.Learnt
 slot_counter-SlotNumber-try_from κs a x y u v p q = (p ∙ sym q, refl)

@@ -1,12 +1,12 @@
 -- Some bytes have one ledger, by whatever rules. Assumes nothing.
-use mathlib.Core.Path.{◌≡◌, refl, sym, ap, ◌∙◌}
+use mathlib.Core.Path.{◌≡◌, sym, ap, ◌∙◌}
 use Prim.Native.Nat.{ℕ}
 use mathlib.Core.List.{List}
 use lib.ListN.{get_or}
 use Rattle.reading.specs.Grammar.{Rules}
 use Rattle.reading.specs.Counts.{ledger_of}
 use Rattle.books.specs.declared.Ledger.{Ledger}
-use Rattle.books.specs.Ledgers.{numbers_of, Ledgered}
+use Rattle.books.specs.Ledgers.{Ledgered}
 
 -- the ledger of nine numbers
 abbrev of_numbers : List ℕ → Ledger

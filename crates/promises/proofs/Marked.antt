@@ -11,7 +11,7 @@ use Rattle.reading.specs.Marked as streams
 use Rattle.reading.proofs.Marked.{marked-cases}
 use Rattle.transport.specs.Marked as payloads
 use Rattle.transport.proofs.Marked.{marked-right}
-use Rattle.promises.specs.Marked.{Case, of_stream, of_payload, Claim, marked, Every, none, also}
+use Rattle.promises.specs.Marked.{Case, of_stream, of_payload, marked, Every, none, also}
 
 streams-then : (xs : List streams.Row) (cs : List Case) → All (streams.Holds crc_of) xs → Every cs → Every (map of_stream xs ++ cs)
 streams-then [] cs a e = e

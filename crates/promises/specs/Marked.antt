@@ -1,5 +1,5 @@
 -- 01's marked cases, in one table with one claim: streams, packet numbers and status words. Assumes nothing.
-use Rattle.std.specs.Prelude.{ℕ, List, [], ◌∷◌, ◌++◌, map, T}
+use Rattle.std.specs.Prelude.{List, [], ◌∷◌, ◌++◌, map, T}
 use Rattle.crc.specs.Crc.{crc_of}
 use Rattle.reading.specs.Marked as streams
 use Rattle.transport.specs.Marked as payloads
