@@ -3,7 +3,6 @@ use mathlib.Core.Path.{sym, ap, ◌∙◌}
 use native.Mathlib.Omega.{arith}
 use Rattle.event_record.specs.Handed.{handed}
 use Rattle.event_log.proofs.Writes.{handed-within, length_rest}
-use borrow.Author.Rules.{rules}
 use Rattle.events.proofs.blocks.put_records.Goals as goal
 
 pub overflow_add-result : goal.overflow_add-result
