@@ -156,7 +156,7 @@ pub enum Answer {
 }
 
 // The receiver: its state, the units of the open frame (the first `len` bytes of `body`), and the tallies. A field more goes behind them: the
-// walks by hand of crates/lent_tallies count the fields up to `tallies`.
+// claims of crates/promises/proofs/Walked.antt count the fields up to `tallies`.
 #[derive(Clone, Copy)]
 pub struct Receiver {
     pub state: State,

@@ -1,5 +1,5 @@
--- Of four functions, whose proofs were once walked by hand: what a caller learns, written down and proved to be what the contract's clauses say, and
--- that it determines the outcome. Determined.antt has the same of what is made of the contract. Assumes nothing.
+-- Of four functions: what a caller learns, written down by hand and proved to be what the contract's clauses say, and that it determines the
+-- outcome. Determined.antt has the same of what the checker makes of the contract. Assumes nothing.
 use mathlib.Core.Path.{◌≡◌, refl, sym, ap, ap₂, ◌∙◌}
 use Prim.Native.Nat.{ℕ}
 use mathlib.Core.List.{List}

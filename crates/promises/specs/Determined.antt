@@ -16,7 +16,7 @@ Determined n ps r L =
     → L κs a y (at_exit (ended_of n ps r) κs a v)
     → (x ≡ y) × (at_exit (ended_of n ps r) κs a u ≡ at_exit (ended_of n ps r) κs a v)
 
--- The same where what a caller learns is written down by hand, as it was beside a function whose proof is walked by hand, ..
+-- The same where what a caller learns is written down by hand, ..
 abbrev pub Says : Ended → Type 1
 Says T = (κs : Lfts T.signature.lifetimes) → Args T.signature κs → Res T.signature κs → AtExit T κs → Type 0
 
