@@ -171,18 +171,15 @@ pub fn start(
 pub fn read_block(from: &mut Source, buf: &mut [u8]) -> Block
     ensures { IsPrefixLen result.len buf.new }
 {
-    match read_once(from, buf) {
-        Ok(n) => Block {
-            len: n,
-            failed: None,
-        },
-        Err(why) => Block {
-            len: 0,
-            failed: Some(why),
-        },
+    let got = read_once(from, buf);
+    let n = got.unwrap_or(0);
+    Block {
+        len: n,
+        failed: got.err(),
     }
 }
 
+// The read itself.
 fn read_once(from: &mut Source, buf: &mut [u8]) -> Result<usize>
     ensures { ReadsAtMost result buf.new }
 {
@@ -197,20 +194,17 @@ pub fn flush(rt: &HostRuntime, out: &[u8], o: Out) -> Out
     ensures { result.at ≡ 0 }
 {
     let at = o.at;
-    if let Err(why) = o.ok {
+    if o.ok.is_ok() {
+        if at <= out.len() {
+            let ok = rt.write_all(&out[..at]);
+            return Out { at: 0, ok: ok };
+        }
         return Out {
             at: 0,
-            ok: Err(why),
+            ok: Err(Error::from(ErrorKind::InvalidInput)),
         };
     }
-    if at <= out.len() {
-        let ok = rt.write_all(&out[..at]);
-        return Out { at: 0, ok: ok };
-    }
-    Out {
-        at: 0,
-        ok: Err(Error::from(ErrorKind::InvalidInput)),
-    }
+    Out { at: 0, ok: o.ok }
 }
 
 // An output with room for so many bytes more: the same one, or an empty one, once what stood in it is written.
