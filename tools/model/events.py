@@ -361,26 +361,15 @@ def told(tally):
     return "".join(f"{n:>9}  {name}\n" for name, n in sorted(tally.items()))
 
 
-def runnable(program):
-    """How a program of the kit is run: it is compiled for x86-64, and elsewhere the kit has an emulator beside its compiler."""
-    machine = os.uname().machine
-    if machine == "x86_64":
-        return [program]
-    guide = subprocess.run(["rt", "doc"], capture_output=True, text=True, check=True).stdout.strip()
-    kit = os.path.join(os.path.dirname(os.path.dirname(guide)), "on", machine, "toolchain")
-    return [f"{kit}/bin/qemu-x86_64", f"{kit}/lib/ld-linux-x86-64.so.2", "--library-path", f"{kit}/lib", program]
-
-
 def against(program, seed, streams, count):
-    program = runnable(program)
     tally, records = collections.Counter(), collections.Counter()
     for i in range(seed, seed + streams):
         s = made(i, count)
         with tempfile.NamedTemporaryFile() as f:
             f.write(s)
             f.flush()
-            got = subprocess.run(program + [f.name], capture_output=True, check=True).stdout
-            said = subprocess.run(program + [f.name, "--ledger"], capture_output=True, check=True).stdout.decode()
+            got = subprocess.run([program, f.name], capture_output=True, check=True).stdout
+            said = subprocess.run([program, f.name, "--ledger"], capture_output=True, check=True).stdout.decode()
         kinds, end = sound(got)
         if got != log(s) or said != books(s) or end != len(got):
             print(f"DIFFERENCE with the model on the stream of --make {i} {count}")
