@@ -11,10 +11,10 @@ KINDS="address::GatewayID link::Type transport::PacketNumber transport::CommandS
 # CRATE, how often the call stands there, the call, and the call with two arguments exchanged
 exchanges() {
     cat <<'CALLS'
-command_frames|2|command_key(gateway, sequence)|command_key(sequence, gateway)
-plain_frames|1|by_type(counters, from, gateway, frame_type, payload)|by_type(counters, from, frame_type, gateway, payload)
-transport_receiver|1|untabled(counters, from, gateway, frame_type, payload)|untabled(counters, from, frame_type, gateway, payload)
-transport_receiver|1|        gateway, frame_type, payload,|        frame_type, gateway, payload,
+command_frames|2|command_key(address.gateway(), sequence)|command_key(sequence, address.gateway())
+plain_frames|1|by_type(counters, address, frame_type, payload)|by_type(counters, frame_type, address, payload)
+transport_receiver|1|untabled(counters, address, frame_type, payload)|untabled(counters, frame_type, address, payload)
+transport_receiver|1|counters, address,\n        frame_type, payload,|counters, frame_type,\n        address, payload,
 transport_receiver|1|            address,\n            frame_type,\n|            frame_type,\n            address,\n
 CALLS
 }

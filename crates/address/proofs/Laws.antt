@@ -1,5 +1,6 @@
 -- An address and its 16 bits, both ways, and what determines each answer. Assumes nothing.
 use mathlib.Core.Path.{◌≡◌, refl, ap}
+use Rattle.std.specs.Prelude.{List, Result, Ok, Err}
 use mathlib.Core.Bool.{Bool, true, false, cond}
 use Prim.Native.Nat.{ℕ, ◌+◌, ◌-◌, ◌≤◌, ◌<◌, ◌^◌}
 use native.Mathlib.Omega.{arith}
@@ -7,16 +8,13 @@ use lib.Dec.{ltb}
 use borrow.Author.Tests.{lt-ltb, le-ltb, ltb-true, ltb-false}
 use Rattle.laws.specs.Bytes.{be16}
 use Rattle.laws.specs.Handed.{refused, value}
+use Rattle.laws.proofs.Numbers.{handed_by-same}
 use Rattle.address.specs.Address.{id_limit, gateway_of, is_from, number_of, address_of}
-use Rattle.address.specs.Handed.{handed_id, handed_number, handed_bytes, number_handed, bytes_handed}
+use Rattle.address.specs.Handed.{refusal_of, handed_id, handed_number, handed_bytes, number_handed, bytes_handed}
 use Rattle.address.specs.declared.Address.{Address}
+use Rattle.address.specs.declared.GatewayID.{GatewayID}
+use Rattle.address.specs.declared.InvalidGatewayID.{InvalidGatewayID}
 use Rattle.address.specs.declared.Address.TheVariants.{From, To}
-use Rattle.address.specs.declared.Made.{Made}
-use Rattle.address.specs.declared.Made.TheVariants.{ID, Invalid as InvalidID}
-use Rattle.address.specs.declared.Numbered.{Numbered}
-use Rattle.address.specs.declared.Numbered.TheVariants.{Number, Invalid as InvalidNumber}
-use Rattle.address.specs.declared.Spelled.{Spelled}
-use Rattle.address.specs.declared.Spelled.TheVariants.{Bytes, Invalid as InvalidBytes}
 
 -- the round trip from an address whose ID has 15 bits
 pub address_of-number_of : (a : Address) → gateway_of a ≤ id_limit → address_of (number_of a) ≡ a
@@ -84,20 +82,17 @@ bytes_handed-refused a = go (ltb id_limit (gateway_of a)) (number_of a)
     go false m e = cc
 
 -- two answers that 01 cannot tell apart are one answer
-pub handed_id-same : (a b : Made) → handed_id a ≡ handed_id b → a ≡ b
-handed_id-same (ID g) (ID h) e = let z : g.0 ≡ h.0 = cc in ap (λ (n : ℕ). ID (record { 0 = n })) z
-handed_id-same (ID g) InvalidID e = cc
-handed_id-same InvalidID (ID h) e = cc
-handed_id-same InvalidID InvalidID e = refl
+apart : (d e : InvalidGatewayID) → refusal_of d ≡ refusal_of e → d ≡ e
+apart d e p = refl
 
-pub handed_number-same : (a b : Numbered) → handed_number a ≡ handed_number b → a ≡ b
-handed_number-same (Number m) (Number n) e = cc
-handed_number-same (Number m) InvalidNumber e = cc
-handed_number-same InvalidNumber (Number n) e = cc
-handed_number-same InvalidNumber InvalidNumber e = refl
+pub handed_id-same : (a b : Result GatewayID InvalidGatewayID) → handed_id a ≡ handed_id b → a ≡ b
+handed_id-same (Ok g) (Ok h) e = let z : g.0 ≡ h.0 = cc in ap (λ (n : ℕ). Ok (record { 0 = n })) z
+handed_id-same (Ok g) (Err d) e = cc
+handed_id-same (Err d) (Ok h) e = cc
+handed_id-same (Err c) (Err d) e = refl
 
-pub handed_bytes-same : (a b : Spelled) → handed_bytes a ≡ handed_bytes b → a ≡ b
-handed_bytes-same (Bytes h l) (Bytes i m) e = cc
-handed_bytes-same (Bytes h l) InvalidBytes e = cc
-handed_bytes-same InvalidBytes (Bytes i m) e = cc
-handed_bytes-same InvalidBytes InvalidBytes e = refl
+pub handed_number-same : (a b : Result ℕ InvalidGatewayID) → handed_number a ≡ handed_number b → a ≡ b
+handed_number-same = handed_by-same refusal_of apart
+
+pub handed_bytes-same : (a b : Result (List ℕ) InvalidGatewayID) → handed_bytes a ≡ handed_bytes b → a ≡ b
+handed_bytes-same = handed_by-same refusal_of apart

@@ -1,5 +1,6 @@
 pub mod Barred
 pub mod Counters
-pub mod Said
+pub mod Places
+pub mod Refusals
 pub mod Stored
 pub mod Types

@@ -1,8 +1,10 @@
 // Counters raised, and keys of places.
 ghost use Rattle.std.specs.Prelude.{◌≡◌, suc};
-ghost use Rattle.answers.specs.Counters.{raise_at, add_at};
+ghost use Rattle.answers.specs.Counters.{raise, add};
+ghost use Rattle.answers.specs.Places.{place_of};
 ghost use Rattle.answers.specs.Stored.{gateway_key, command_key};
 
+use crate::counters::Counter;
 use address::GatewayID;
 use transport::CommandSequenceNumber;
 
@@ -15,20 +17,19 @@ pub const STRIDE: usize = 245;
 // How many bytes the pool has.
 pub const POOL: usize = 15680;
 
-// One counter raised by `n`; past the last there is none.
-pub fn add(counters: &mut [u64; 33], i: usize, n: u64)
-    ensures { counters.new ≡ add_at n i counters.old }
+// One counter raised by `n`.
+pub fn add(counters: &mut [u64; 33], counter: Counter, n: u64)
+    ensures { counters.new ≡ add n (place_of counter) counters.old }
 {
-    if i < 33 {
-        counters[i] = std::num::wrapping_add_u64(counters[i], n);
-    }
+    let i = counter.place();
+    counters[i] = counters[i].wrapping_add(n);
 }
 
-// One counter raised by one; past the last there is none.
-pub fn raise(counters: &mut [u64; 33], i: usize)
-    ensures { counters.new ≡ raise_at i counters.old }
+// One counter raised by one.
+pub fn raise(counters: &mut [u64; 33], counter: Counter)
+    ensures { counters.new ≡ raise (place_of counter) counters.old }
 {
-    add(counters, i, 1);
+    add(counters, counter, 1);
 }
 
 // The key of a gateway's place.

@@ -12,7 +12,7 @@ use Rattle.reading.proofs.Reader.{pieces, pieces_of}
 use Rattle.reading.proofs.Once.{the-reading}
 use Rattle.link_receive.specs.declared.Receiver.{Receiver}
 use Rattle.link_receive.specs.Tally.{tally_of, zeros}
-use Rattle.link_receive.specs.declared.Answer.TheVariants.{Refused}
+use Rattle.std.specs.Prelude.{Err}
 use Rattle.link_receive.specs.Step.{room, rules_of, fresh_of, reset_of, step_of}
 use Rattle.link_receive.proofs.Rules.{rules_of-made}
 use Rattle.link_feed.specs.Feed.{feed_of}
@@ -74,5 +74,5 @@ module _ (check : List ℕ → ℕ) where
   step-since g h r b a = since-more check g h r a (b ∷ [])
 
   -- a receiver that bytes lead to is never refused by 12: no program meets it
-  pub since-answered : (g h : List ℕ) (r : Receiver) → Since check g h r → (s : List ℕ) → (feed_of check r s).answer ≡ Refused → ⊥
+  pub since-answered : (g h : List ℕ) (r : Receiver) → Since check g h r → (s : List ℕ) → (feed_of check r s).answer ≡ Err (record {}) → ⊥
   since-answered g h r a s e = (feed_of-goes check r s a.within).answers e

@@ -16,7 +16,8 @@ use Rattle.link_feed.specs.Feed.{feed_of}
 use Rattle.link_feed.specs.Drain.{drain_of, frames_of, frames_fed, extend_of}
 use Rattle.link_feed.proofs.Drains.{rules_of-drain, rules_of-extend}
 use Rattle.books.specs.declared.Ledger.{Ledger}
-use Rattle.books.specs.declared.Telling.{Telling}
+use Rattle.std.specs.Prelude.{Result}
+use Rattle.link_receive.specs.declared.OverLimit.{OverLimit}
 use Rattle.books.specs.Stands.{Since}
 use Rattle.books.specs.Ledgers.{ledger_at, told_of, Ledgered, ToldAs, Absorbed}
 use Rattle.books.specs.Gives.{GaveOn, Gave}
@@ -56,7 +57,7 @@ module _ (check : List ℕ → ℕ) where
   pub gave : (r : Receiver) (s : List ℕ) (f : Fed) → f ≡ feed_of check r s → Gave check r s f
   gave r s f e = record { exactly = e; on = on r s f e }
 
-  pub told-as : (r : Receiver) (x : Telling) → x ≡ told_of r → ToldAs check r x
+  pub told-as : (r : Receiver) (x : Result Ledger OverLimit) → x ≡ told_of r → ToldAs check r x
   told-as r x e = record { exactly = e; ledgered = λ h a few. ledger-told check h r a few }
 
   -- a whole slice, from fresh: by 01's rules

@@ -11,8 +11,6 @@ use lib.Seq.{take-suc-set}
 use lib.Dec.{eqb, ltb}
 use borrow.Author.Tests.{ltb-true, le-ltb}
 use Rattle.escaping.specs.Escapes.{Meaning, datum, opener, closer, neither, meaning, unescaped_of}
-use Rattle.laws.specs.Bytes.{be16_at}
-use Rattle.address.specs.Address.{address_of}
 use Rattle.link.specs.Wire.{frame_of}
 use Rattle.reading.specs.Grammar.{Rules}
 use Rattle.reading.specs.Counts.{Verdict, runt, checksum, sound, verdict, inside}
@@ -24,7 +22,7 @@ use Rattle.link_receive.specs.declared.Receiver.{Receiver}
 use Rattle.link_receive.specs.declared.Tallies.{Tallies}
 use Rattle.link_receive.specs.declared.Stepped.{Stepped}
 use Rattle.link_receive.specs.Tally.{raise}
-use Rattle.link_receive.specs.Step.{room, made_of, rules_of, Within, turn_of, parsed_of, closed_of, moved_of, step_of}
+use Rattle.link_receive.specs.Step.{room, head_of, made_of, rules_of, Within, turn_of, parsed_of, closed_of, moved_of, step_of}
 use Rattle.link_receive.specs.Frames.{handed_out}
 use Rattle.link_receive.proofs.Rules.{limit-room}
 use Rattle.link_receive.proofs.Frames.{handed_out-sound}
@@ -93,7 +91,7 @@ module _ (check : List ℕ → ℕ) (rules : Rules) (fits : rules.limit ≤ room
   unfolding raised_by bodies parsed_of
   link-closed runt e = rw e (linked (omega arith) l refl refl refl)
   link-closed checksum e = rw e (linked (omega arith) l refl refl refl)
-  link-closed sound e = rw e (linked (omega arith) l refl refl (handed_out-sound check body len (address_of (be16_at (take len body) 0)) (record { 0 = be16_at (take len body) 2 }) (omega arith) (rw e)))
+  link-closed sound e = rw e (linked (omega arith) l refl refl (handed_out-sound check body len (head_of (take len body)) (omega arith) (rw e)))
 
   link-escape : (m : Meaning) (y : Bool) → meaning b ≡ m → ltb len rules.limit ≡ y → Links FrameEscape
   unfolding turn_of raised_by bodies

@@ -4,8 +4,8 @@ use Prim.Native.Nat.{ℕ, suc, ◌+◌}
 use mathlib.Core.List.{List, [], ◌∷◌, append-nil}
 use native.Mathlib.Omega.{arith}
 use lib.ListN.{take}
-use Rattle.link_receive.specs.declared.Answer.{Answer}
-use Rattle.link_receive.specs.declared.Answer.TheVariants as answer
+use Rattle.std.specs.Prelude.{Some, None, Ok, Err}
+use Rattle.link_receive.specs.Frames.{Answered}
 use Rattle.link_receive.specs.declared.Receiver.{Receiver}
 use Rattle.link_feed.specs.declared.Fed.{Fed}
 use Rattle.link_receive.specs.Step.{Within, step_of}
@@ -23,14 +23,14 @@ module _ (check : List ℕ → ℕ) where
     drained : f.next ≡ drain_of check r (take more s)
     handed : frames_fed f ≡ frames_of check r (take more s)
 
-  from_step : (r : Receiver) (b : ℕ) (bs : List ℕ) (n : ℕ) (a : Answer) (f : Fed) → (step_of check r b).answer ≡ a → (a ≡ answer.Refused → ⊥)
+  from_step : (r : Receiver) (b : ℕ) (bs : List ℕ) (n : ℕ) (a : Answered) (f : Fed) → (step_of check r b).answer ≡ a → (a ≡ Err (record {}) → ⊥)
       → From (step_of check r b).next bs (n + 1) f → From r (b ∷ bs) n (fed_on a (step_of check r b).next n f)
   unfolding drain_of frames_of
-  from_step r b bs n answer.Nothing f e refuses i =
+  from_step r b bs n (Ok None) f e refuses i =
       record { more = suc i.more; taken = i.taken ∙ omega arith; drained = i.drained; handed = i.handed ∙ rw e }
-  from_step r b bs n (answer.Frame address t len) f e refuses i =
-      record { more = 1; taken = refl; drained = refl; handed = rw e (sym (append-nil (handed_out (answer.Frame address t len) (step_of check r b).next.body))) }
-  from_step r b bs n answer.Refused f e refuses i = absurd (refuses refl)
+  from_step r b bs n (Ok (Some x)) f e refuses i =
+      record { more = 1; taken = refl; drained = refl; handed = rw e (sym (append-nil (handed_out (Ok (Some x)) (step_of check r b).next.body))) }
+  from_step r b bs n (Err x) f e refuses i = absurd (refuses refl)
 
   feed-from : (s : List ℕ) (r : Receiver) (n : ℕ) → Within r → From r s n (feed_from check r s n)
   unfolding feed_from drain_of frames_of

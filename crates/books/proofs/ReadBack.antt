@@ -17,16 +17,15 @@ use Rattle.reading.proofs.Books.{bodies}
 use Rattle.reading.proofs.ReadBack.{almost_of, encoded_of-almost_of, goes-encoded_of, goes-almost_of}
 use Rattle.link_receive.specs.declared.State.{State}
 use Rattle.link_receive.specs.declared.State.TheVariants as state
-use Rattle.link_receive.specs.declared.Answer.{Answer}
-use Rattle.link_receive.specs.declared.Answer.TheVariants as answer
+use Rattle.std.specs.Prelude.{Some, None, Result, Ok, Err}
+use Rattle.link_receive.specs.declared.Head.{Head}
+use Rattle.link_receive.specs.declared.Tally.{Tally}
 use Rattle.link_receive.specs.declared.Receiver.{Receiver}
 use Rattle.link_receive.specs.declared.Stepped.{Stepped}
 use Rattle.link_feed.specs.declared.Fed.{Fed}
-use Rattle.link_receive.specs.declared.Parsed.{Parsed}
-use Rattle.link_receive.specs.declared.Parsed.TheVariants.{Sound, Dropped}
 use Rattle.link_receive.specs.declared.Move.TheVariants.{Close}
 use Rattle.link_receive.specs.Step.{room, rules_of, Within, turn_of, parsed_of, closed_of, step_of}
-use Rattle.link_receive.specs.Frames.{handed_out}
+use Rattle.link_receive.specs.Frames.{Answered, handed_out}
 use Rattle.link_feed.specs.Feed.{stopped, fed_on, feed_from, feed_of}
 use Rattle.link_feed.specs.Drain.{drain_of, frames_of, frames_fed}
 use Rattle.link_receive.proofs.Steps.{step_of-within}
@@ -61,10 +60,10 @@ state-of : (r : Receiver) (x : Rest) → rest_at r ≡ x → r.state ≡ state_a
 state-of r x e = sym (state_at-rest_of r.state _) ∙ ap state_at e
 
 -- an answer that hands out nothing and is no refusal
-silent-answer : (a : Answer) (body : List ℕ) → (a ≡ answer.Refused → ⊥) → handed_out a body ≡ [] → a ≡ answer.Nothing
-silent-answer answer.Nothing body n e = refl
-silent-answer (answer.Frame address t len) body n e = let z : ◌≡◌ {A = ℕ} 1 0 = ap length e in absurd (omega arith)
-silent-answer answer.Refused body n e = absurd (n refl)
+silent-answer : (a : Answered) (body : List ℕ) → (a ≡ Err (record {}) → ⊥) → handed_out a body ≡ [] → a ≡ Ok None
+silent-answer (Ok None) body n e = refl
+silent-answer (Ok (Some x)) body n e = let z : ◌≡◌ {A = ℕ} 1 0 = ap length e in absurd (omega arith)
+silent-answer (Err x) body n e = absurd (n refl)
 
 append-none : (xs ys : List Frame) → xs ++ ys ≡ [] → (xs ≡ []) × (ys ≡ [])
 append-none [] ys e = (refl, e)
@@ -72,19 +71,19 @@ append-none (x ∷ xs) ys e = let z : ◌≡◌ {A = ℕ} (suc (length (xs ++ ys
 
 module _ (check : List ℕ → ℕ) where
   -- feeding over bytes that hand out nothing, and one byte more
-  feed-on : (x : ℕ) (ys : List ℕ) (r : Receiver) (n : ℕ) → (step_of check r x).answer ≡ answer.Nothing → feed_from check r (x ∷ ys) n ≡ feed_from check (step_of check r x).next ys (n + 1)
+  feed-on : (x : ℕ) (ys : List ℕ) (r : Receiver) (n : ℕ) → (step_of check r x).answer ≡ Ok None → feed_from check r (x ∷ ys) n ≡ feed_from check (step_of check r x).next ys (n + 1)
   unfolding feed_from
   feed-on x ys r n e = rw e
 
   -- one byte alone
-  feed-one : (b : ℕ) (r : Receiver) (n : ℕ) → ((step_of check r b).answer ≡ answer.Refused → ⊥) → feed_from check r (b ∷ []) n ≡ stopped (step_of check r b).next (step_of check r b).answer (n + 1)
+  feed-one : (b : ℕ) (r : Receiver) (n : ℕ) → ((step_of check r b).answer ≡ Err (record {}) → ⊥) → feed_from check r (b ∷ []) n ≡ stopped (step_of check r b).next (step_of check r b).answer (n + 1)
   unfolding feed_from
   feed-one b r n h = go (step_of check r b).answer h
     where
-      go : (a : Answer) → (a ≡ answer.Refused → ⊥) → fed_on a (step_of check r b).next n (stopped (step_of check r b).next answer.Nothing (n + 1)) ≡ stopped (step_of check r b).next a (n + 1)
-      go answer.Nothing h = refl
-      go (answer.Frame address t len) h = refl
-      go answer.Refused h = absurd (h refl)
+      go : (a : Answered) → (a ≡ Err (record {}) → ⊥) → fed_on a (step_of check r b).next n (stopped (step_of check r b).next (Ok None) (n + 1)) ≡ stopped (step_of check r b).next a (n + 1)
+      go (Ok None) h = refl
+      go (Ok (Some x)) h = refl
+      go (Err x) h = absurd (h refl)
 
   feed-quiet : (xs : List ℕ) (b : ℕ) (r : Receiver) (n : ℕ) → Within r → frames_of check r xs ≡ []
       → feed_from check r (xs ++ (b ∷ [])) n ≡ feed_from check (drain_of check r xs) (b ∷ []) (n + length xs)
@@ -131,9 +130,9 @@ module _ (check : List ℕ → ℕ) where
     x-empty : x.next.len ≡ 0
     x-empty = ap (λ (y : Stepped). y.next.len) x-closes ∙ go (parsed_of check (take q.len q.body))
       where
-        go : (p : Parsed) → (closed_of q p).next.len ≡ 0
-        go (Sound address t) = refl
-        go (Dropped y) = refl
+        go : (p : Result Head Tally) → (closed_of q p).next.len ≡ 0
+        go (Ok y) = refl
+        go (Err y) = refl
 
     drained : drain_of check r bytes ≡ x.next
     unfolding drain_of

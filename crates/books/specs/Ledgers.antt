@@ -1,5 +1,5 @@
 -- Ledgers: the nine numbers of the one reading of some bytes, and the contracts of the functions that give them. Over any check. Assumes nothing.
-use Rattle.std.specs.Prelude.{◌≡◌, ℕ, ◌+◌, ◌<◌, ◌^◌, cond, List, [], ◌∷◌, ◌++◌, length}
+use Rattle.std.specs.Prelude.{◌≡◌, ℕ, ◌+◌, ◌<◌, ◌^◌, cond, List, [], ◌∷◌, ◌++◌, length, Result, Ok, Err}
 use Rattle.reading.specs.Grammar.{Rules, Piece, TheReading}
 use Rattle.reading.specs.Counts.{ledger_of}
 use Rattle.laws.specs.Handed.{Handed, value, is_refusal}
@@ -9,8 +9,7 @@ use Rattle.link_receive.specs.declared.Stepped.{Stepped}
 use Rattle.link_receive.specs.Step.{rules_of, too_long, open_of}
 use Rattle.link_feed.specs.Drain.{extend_of}
 use Rattle.books.specs.declared.Ledger.{Ledger}
-use Rattle.books.specs.declared.Telling.{Telling}
-use Rattle.books.specs.declared.Telling.TheVariants.{So, Refused}
+use Rattle.link_receive.specs.declared.OverLimit.{OverLimit}
 use Rattle.books.specs.Stands.{Since, After}
 
 -- 01, "Marked cases": openings, frames, runts, checksums, giants, escaped, broken, noise, open
@@ -34,17 +33,17 @@ ledger_at r =
     }
 
 -- 01, "Numbers handed back", 12: state with a length over its limit
-abbrev pub handed : Telling → Handed (List ℕ)
-handed (So l) = value (numbers_of l)
-handed Refused = refused_as over_limit
+abbrev pub handed : Result Ledger OverLimit → Handed (List ℕ)
+handed (Ok l) = value (numbers_of l)
+handed (Err e) = refused_as over_limit
 
--- the telling that has the number of a refusal, if any has
-abbrev pub refused_by : Refusal → Ledger → Telling
-refused_by r l = cond (is_refusal (number_of r) (handed Refused)) Refused (So l)
+-- the error, if it has the number of a refusal, in the place of a ledger
+abbrev pub refused_by : Refusal → Ledger → Result Ledger OverLimit
+refused_by r l = cond (is_refusal (number_of r) (handed (Err (record {})))) (Err (record {})) (Ok l)
 
 -- what a receiver is told as: 12 if its length is over the limit, else its ledger
-unfoldable pub told_of : Receiver → Telling
-told_of r = cond (too_long r) (refused_by over_limit (ledger_at r)) (So (ledger_at r))
+unfoldable pub told_of : Receiver → Result Ledger OverLimit
+told_of r = cond (too_long r) (refused_by over_limit (ledger_at r)) (Ok (ledger_at r))
 
 module _ (check : List ℕ → ℕ) where
   -- the ledger of some bytes by some rules: there is exactly one reading of them, each number is its count of pieces, and openings balance endings
@@ -55,7 +54,7 @@ module _ (check : List ℕ → ℕ) where
     pub balanced : l.openings ≡ l.frames + l.runts + l.checksums + l.giants + l.escaped + l.broken + l.unfinished
 
   -- told of a receiver that bytes lead to, fewer than 2^64: their ledger by its rules
-  pub record ToldAs (r : Receiver) (x : Telling) : Type 0 where
+  pub record ToldAs (r : Receiver) (x : Result Ledger OverLimit) : Type 0 where
     pub exactly : x ≡ told_of r
     pub ledgered : (h : List ℕ) → After check h r → length h < 2 ^ 64 → Ledgered (rules_of r) h (ledger_at r)
 

@@ -9,7 +9,7 @@ ghost use Rattle.books.specs.Ledgers.{ledger_at, Ledgered, Absorbed, ToldAs};
 ghost use Rattle.books.specs.Gives.{Gave};
 
 use link_feed::Fed;
-use link_receive::{Receiver, Stepped};
+use link_receive::{OverLimit, Receiver, Stepped};
 
 // The nine numbers that the ledger program prints; `unfinished` is 1 while a frame is open.
 #[derive(Clone, Copy)]
@@ -25,18 +25,9 @@ pub struct Ledger {
     pub unfinished: u64,
 }
 
-// What `told` gives: the ledger so far, or the refusal 12.
-#[derive(Clone, Copy)]
-pub enum Telling {
-    So(Ledger),
-    Refused,
-}
-
 fn ledger_at(r: Receiver) -> Ledger
     ensures { result ≡ ledger_at r }
 {
-    let state = r.state;
-    let unfinished = link_receive::open_frames(state);
     let t = r.tallies;
     Ledger {
         openings: t.openings,
@@ -47,20 +38,19 @@ fn ledger_at(r: Receiver) -> Ledger
         escaped: t.escaped,
         broken: t.broken,
         noise: t.noise,
-        unfinished: unfinished,
+        unfinished: link_receive::open_frames(r.state),
     }
 }
 
 // The ledger so far. Refused by 12 if the receiver's length is over its limit.
-pub fn told(r: Receiver) -> Telling
+#[tactic(auto, unfolding(crate::specs::Ledgers::told_of, link_receive::specs::Step::rules_of))]
+pub fn told(r: Receiver) -> Result<Ledger, OverLimit>
     ensures { ToldAs crc_of r result }
 {
-    let len = r.len;
-    if Receiver::MAX_FRAME_SIZE < len {
-        return Telling::Refused;
+    if Receiver::MAX_FRAME_SIZE < r.len {
+        return Err(OverLimit);
     }
-    let l = ledger_at(r);
-    Telling::So(l)
+    Ok(ledger_at(r))
 }
 
 // Takes a whole block in; its frames are not looked at. Refused by 12, with nothing changed, as a step is.
@@ -83,6 +73,5 @@ pub fn ledger_of(s: &[u8]) -> Ledger
 {
     let r = Receiver::new();
     let x = absorb(r, s);
-    let q = x.next;
-    ledger_at(q)
+    ledger_at(x.next)
 }

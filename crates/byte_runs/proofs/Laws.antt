@@ -3,13 +3,16 @@ use mathlib.Core.Path.{◌≡◌, refl, sym, ap, ap₂, ◌∙◌, subst}
 use mathlib.Core.Bool.{Bool, true, false, cond}
 use mathlib.Core.List.{List, [], ◌∷◌}
 use Prim.Native.Nat.{ℕ, zero, suc, ◌+◌, ◌-◌, ◌≤◌, ◌<◌, zero-le, suc-le-suc}
-use native.Mathlib.Nat.{not-suc-le-zero, le_refl, le_of_suc-le-suc, zero-lt-suc, add-zero, add-suc, add_assoc, lt_of_lt_of_le, sub_self}
+use native.Mathlib.Nat.{not-suc-le-zero, le_refl, le_of_suc-le-suc, zero-lt-suc, add-zero, add-suc, add_assoc, lt_of_lt_of_le}
 use native.Mathlib.Numerals.{add-one}
 use native.Mathlib.Omega.{arith}
 use borrow.Author.Tests.{ltb-true, ltb-false}
 use lib.Dec.{ltb}
 use lib.ListN.{length, get_or, set, take, drop, length-set, length-take, length-drop, drop_of_length-le}
 use lib.Seq.{get_or-take, get_or-drop, take-nil, paste, paste-zero, paste-suc}
+use Rattle.std.specs.List.{prefix_len}
+use Rattle.std.specs.Prelude.{min}
+use Rattle.std.proofs.Math.Nat.{min-le_left, min-le_right, le-min}
 use Rattle.byte_runs.specs.Runs.{lead, All, laid}
 
 split : {P : Type 0} (a b : ℕ) (t : Bool) → ltb a b ≡ t → (a < b → P) → (b ≤ a → P) → P
@@ -87,25 +90,10 @@ pub lead-take-past : (p : ℕ → Bool) (s : List ℕ) (i n : ℕ) → length s 
 unfolding lead
 lead-take-past p s i n h = rw (drop_of_length-le s h, take-nil n)
 
--- what is laid from the k-th byte on, at its start, a byte further, and as part of the whole
-pub laid-begun : (d : List ℕ) (l : ℕ) (s : List ℕ) (i k : ℕ) → d ≡ laid d l s i (k - k)
-laid-begun d l s i k = ap (laid d l s i) (sym (sub_self k))
-
-pub laid-further : (d : List ℕ) (l : ℕ) (s : List ℕ) (i k m : ℕ) → k ≤ m → set (laid d (l + k) s (i + k) (m - k)) (l + m) (get_or s (i + m) 0) ≡ laid d (l + k) s (i + k) (m + 1 - k)
-laid-further d l s i k m h =
-    ap₂ (λ (p q : ℕ). set (laid d (l + k) s (i + k) (m - k)) p (get_or s q 0)) (sym (add-rest l k m h)) (sym (add-rest i k m h))
-    ∙ laid_more d (l + k) s (i + k) (m - k)
-    ∙ ap (laid d (l + k) s (i + k)) (next k m h)
-  where
-    next : (k m : ℕ) → k ≤ m → m - k + 1 ≡ m + 1 - k
-    next k m h = omega arith
-
-pub laid-whole : (d e : List ℕ) (l : ℕ) (s : List ℕ) (i k m : ℕ) → k ≤ m → e ≡ laid d l s i k → laid e (l + k) s (i + k) (m - k) ≡ laid d l s i m
-laid-whole d e l s i k m h q =
-    ap (λ (x : List ℕ). laid x (l + k) s (i + k) (m - k)) q ∙ laid-add d l s i k (m - k) ∙ ap (laid d l s i) (whole k m h)
-  where
-    whole : (k m : ℕ) → k ≤ m → k + (m - k) ≡ m
-    whole k m h = omega arith
+-- what is laid in two pieces, the second byte by byte, is pasted: `copy_run` cites this
+pub laid-on : (d e f : List ℕ) (l : ℕ) (s : List ℕ) (i m k : ℕ) → e ≡ laid d l s i m → f ≡ laid e (l + m) s (i + m) k → l + (m + k) ≤ length d → i + (m + k) ≤ length s → f ≡ paste d l (drop i s) (m + k)
+laid-on d e f l s i m k q r h g =
+    r ∙ ap (λ (x : List ℕ). laid x (l + m) s (i + m) k) q ∙ laid-add d l s i m k ∙ laid-paste d l s i (m + k) h g
 
 -- no bytes
 pub all_none : (p : ℕ → Bool) (s : List ℕ) (i : ℕ) → All p s i 0
@@ -172,3 +160,29 @@ module _ (p : ℕ → Bool) (s : List ℕ) (i n r : ℕ) (h : i ≤ length s) (e
       let w : lead p (take n (drop i s)) < length (take n (drop i s)) = simp (length-take, length-drop) (omega arith) in
       let x : lead p (take n (drop i s)) < n = omega arith in
       subst (λ (m : ℕ). p (get_or s (i + m) 0) ≡ false) (sym e) (rw (get_or-take, get_or-drop) at (lead-stops p (take n (drop i s)) w))
+
+-- a run goes on behind what was passed: `run` cites this
+pub lead-on : (p : ℕ → Bool) (s : List ℕ) (i m : ℕ) → i + m ≤ length s → All p s i m → lead p (drop i s) ≡ m + lead p (drop (i + m) s)
+lead-on p s i m h f =
+    let r = lead p (drop (i + m) s) in
+    let e : i + m + r ≡ i + (m + r) = add_assoc i m r in
+    lead-drop p s i (m + r) (omega (arith, run_inside p s (i + m) r h refl)) (all-add p s i m r f (run-all p s (i + m) r h refl))
+    (λ u. subst (λ (k : ℕ). p (get_or s k 0) ≡ false) e (run-stops p s (i + m) r h refl (omega arith)))
+
+-- a run is what `take_while` gives
+pub lead-prefix_len : (p : ℕ → Bool) (xs : List ℕ) → lead p xs ≡ prefix_len p xs
+unfolding lead
+lead-prefix_len p [] = refl
+lead-prefix_len p (x ∷ xs) =
+    let e : suc (prefix_len p xs) ≡ 1 + prefix_len p xs = omega arith in
+    ap (λ (n : ℕ). cond (p x) n 0) (ap suc (lead-prefix_len p xs) ∙ e)
+
+-- the least of two: `copy_run` cites these
+pub least : (n x y : ℕ) → n ≡ min x y → (n ≤ x) × (n ≤ y)
+least n x y e = (omega (arith, min-le_left x y), omega (arith, min-le_right x y))
+
+pub least-greatest : (n x y : ℕ) → n ≡ min x y → n < x → n < y → ⊥
+least-greatest n x y e h g =
+    let u : n + 1 ≤ x = omega arith in
+    let v : n + 1 ≤ y = omega arith in
+    omega (arith, le-min u v)

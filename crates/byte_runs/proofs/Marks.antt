@@ -15,7 +15,9 @@ use Rattle.laws.proofs.Bits.{xor_assoc}
 use Rattle.laws.proofs.Bytes.{bytes_take, bytes_drop, bytes-append}
 use Rattle.laws.proofs.Lay.{laid_over-take}
 use Rattle.words.specs.Words.{le_of, digits, put_of, number_of}
-use Rattle.words.proofs.Laws.{digits_of, put_is, number_is}
+use Rattle.std.proofs.lemmas.List.{drop-take}
+use Rattle.std.specs.Simd.{first_chunks}
+use Rattle.words.proofs.Laws.{chunk-at, digits_of, put_is, number_is}
 use Rattle.byte_runs.specs.Runs.{fenced, is_of, lead, All, laid}
 use Rattle.byte_runs.specs.declared.Sort.TheVariants as sort
 use Rattle.byte_runs.specs.Marks.{mark, marked, Eight, Marks, Below, First, Blended}
@@ -191,6 +193,48 @@ word-laid d l bs w h q =
 paste-laid : (d : List ℕ) (l : ℕ) (s : List ℕ) (i k : ℕ) → l + 8 ≤ length d → i + 8 ≤ length s → k ≤ 8 → paste d l (take 8 (drop i s)) k ≡ laid d l s i k
 paste-laid d l s i k h g u =
     ap (λ (r : List ℕ). take l d ++ r ++ drop (l + k) d) (take-take k 8 (drop i s) u) ∙ sym (laid-paste d l s i k (omega arith) (omega arith))
+
+-- what a part of a slice has from a place on
+part-drop : (s : List ℕ) (i n j : ℕ) → j ≤ n → drop j (take n (drop i s)) ≡ take (n - j) (drop (i + j) s)
+part-drop s i n j h =
+    let q : n ≡ j + (n - j) = omega arith in
+    ap (λ (m : ℕ). drop j (take m (drop i s))) q ∙ drop-take j (n - j) (drop i s) ∙ ap (take (n - j)) (drop-drop j i s)
+
+-- the loops over chunks of eight cite these: where a chunk of a part of a slice stands, and its word; and what stands behind the last
+module _ (s : List ℕ) (i n : ℕ) (cs : List (List ℕ)) (h : i + n ≤ length s) (e : cs ≡ first_chunks 8 (length (take n (drop i s)) / 8) (take n (drop i s))) (l : length cs ≡ length (take n (drop i s)) / 8) where
+  long : length (take n (drop i s)) ≡ n
+  long = simp (length-take, length-drop) (omega arith)
+
+  pub chunks_inside : 8 * length cs ≤ n
+  chunks_inside = omega (arith, long)
+
+  pub chunk_inside : (k : ℕ) → k < length cs → i + 8 * k + 8 ≤ length s
+  chunk_inside k u = omega (arith, chunks_inside)
+
+  pub chunk-word : (k w : ℕ) (d : List ℕ) → k < length cs → w ≡ number_of 8 (get_or cs k d) → w ≡ number_of 8 (take 8 (drop (i + 8 * k) s))
+  chunk-word k w d u ew =
+      let part = take n (drop i s) in
+      let c : k * 8 ≡ 8 * k = omega arith in
+      ew
+      ∙ ap (number_of 8)
+      (ap (λ (ys : List (List ℕ)). get_or ys k d) e
+      ∙ chunk-at 8 (length part / 8) k part d (omega arith)
+      ∙ ap (λ (j : ℕ). take 8 (drop j part)) c
+      ∙ ap (take 8) (part-drop s i n (8 * k) (omega (arith, chunks_inside)))
+      ∙ take-take 8 (n - 8 * k) (drop (i + 8 * k) s) (omega (arith, chunks_inside)))
+
+  pub chunks-rest : (tail : List ℕ) → tail ≡ drop (length (take n (drop i s)) / 8 * 8) (take n (drop i s)) → tail ≡ take (n - 8 * length cs) (drop (i + 8 * length cs) s)
+  chunks-rest tail q =
+      let c : length (take n (drop i s)) / 8 * 8 ≡ 8 * length cs = omega arith in
+      q ∙ ap (λ (j : ℕ). drop j (take n (drop i s))) c ∙ part-drop s i n (8 * length cs) chunks_inside
+
+  pub rest-long : (tail : List ℕ) → tail ≡ drop (length (take n (drop i s)) / 8 * 8) (take n (drop i s)) → 8 * length cs + length tail ≡ n
+  rest-long tail q = omega (arith, chunks_inside, ap length (chunks-rest tail q), length-take {A = ℕ}, length-drop {A = ℕ})
+
+  pub rest-at : (tail : List ℕ) → tail ≡ drop (length (take n (drop i s)) / 8 * 8) (take n (drop i s)) → (k : ℕ) → k < length tail → get_or tail k 0 ≡ get_or s (i + 8 * length cs + k) 0
+  rest-at tail q k u =
+      let v : k < n - 8 * length cs = omega (arith, rest-long tail q) in
+      ap (λ (xs : List ℕ). get_or xs k 0) (chunks-rest tail q) ∙ rw (get_or-take, get_or-drop) refl
 
 -- the loops of words cite these: eight bytes at a place of a slice, however long the part is written
 module _ (s : List ℕ) (a n w : ℕ) (h : Bytes s) (g : a + 8 ≤ length s) (en : n ≡ 8) (ew : w ≡ number_of 8 (take n (drop a s))) where

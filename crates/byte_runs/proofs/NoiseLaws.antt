@@ -20,7 +20,7 @@ use Rattle.byte_runs.specs.Marks.{marked, Eight, Marks, Below, First}
 use Rattle.byte_runs.specs.Noises.{noisy_after, noises_of, heard_of, noises_at, Noised, tick, behind_of, Behind, Begun, NoisyAt, NoisyBehind}
 use Rattle.byte_runs.specs.declared.Heard.{Heard}
 use Rattle.byte_runs.specs.declared.Sort.TheVariants as sort
-use Rattle.byte_runs.proofs.Laws.{all-add, lead-drop, run_inside, run-all, run-stops}
+use Rattle.byte_runs.proofs.Laws.{all-add, lead-drop, run_inside, run-all}
 use Rattle.byte_runs.proofs.Marks.{eight-of, all-eight, first-eight}
 
 -- bytes on end
@@ -292,11 +292,6 @@ noises-are n s i h =
       count = ap (λ (m : ℕ). noises_of n (take m d)) q;
       noisy = ap (λ (m : ℕ). noisy_after n (take m d)) q;
     }
-
--- .. and this: behind them stands a 7e, or nothing
-pub noises-stop : (n : Bool) (s : List ℕ) (i : ℕ) → i ≤ length s → (noises_at n s i).at < length s → is_of sort.Raw (get_or s (noises_at n s i).at 0) ≡ false
-unfolding noises_at
-noises-stop n s i h u = run-stops (is_of sort.Raw) s i (lead (is_of sort.Raw) (drop i s)) h refl u
 
 -- the loop of words: what was heard from i to a, with the mark of the last byte
 pub record Hears (n : Bool) (s : List ℕ) (i before count a : ℕ) : Type 0 where

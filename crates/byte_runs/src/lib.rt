@@ -3,6 +3,7 @@
 #![tactic(auto)]
 
 ghost use Rattle.std.specs.Prelude.{◌≡◌, not, [], ◌∷◌, ◌+◌, ◌-◌, ◌≤◌, ◌<◌, length, take, drop};
+ghost use Rattle.std.specs.List.{prefix_len};
 ghost use Rattle.std.proofs.Math.Seq.{paste};
 ghost use Rattle.byte_runs.specs.Runs.{idle, fenced, is_of, lead};
 ghost use Rattle.byte_runs.specs.Marks.{Marks, between_of, Below, First, Blended};
@@ -21,21 +22,14 @@ pub enum Sort {
 fn is_fenced(b: u8) -> bool
     ensures { result ≡ fenced b }
 {
-    let c = b % 128;
-    if c < 0x23 {
-        return false;
-    }
-    c < 0x26
+    matches!(b % 0x80, 0x23..=0x25)
 }
 
 // 00 and ff.
 fn is_idle(b: u8) -> bool
     ensures { result ≡ idle b }
 {
-    if b == 0x00 {
-        return true;
-    }
-    b == 0xff
+    matches!(b, 0x00 | 0xff)
 }
 
 // Whether a byte is of a sort.
@@ -45,18 +39,8 @@ pub fn is(sort: Sort, b: u8) -> bool
     match sort {
         Sort::Raw => b != 0x7e,
         Sort::Idle => is_idle(b),
-        Sort::Plain => {
-            if b == 0x7e {
-                return false;
-            }
-            !is_fenced(b)
-        }
-        Sort::Calm => {
-            if b == 0x07 {
-                return false;
-            }
-            b != 0x08
-        }
+        Sort::Plain => b != 0x7e && !is_fenced(b),
+        Sort::Calm => b != 0x07 && b != 0x08,
     }
 }
 
@@ -126,35 +110,31 @@ fn first(z: u64) -> usize
     requires { 1 ≤ z }
     ensures { First z result }
 {
-    (u64::trailing_zeros(z) >> 3) as usize
+    (z.trailing_zeros() >> 3) as usize
+}
+
+// How many bytes of a sort a slice begins with.
+fn leading(sort: Sort, s: &[u8]) -> usize
+    ensures { result ≡ prefix_len (is_of sort) s.now }
+{
+    s.iter().take_while(|b| is(sort, **b)).count()
 }
 
 // How many bytes of a sort stand at i.
 pub fn run(sort: Sort, s: &[u8], i: usize) -> usize
     ensures { result ≡ lead (is_of sort) (drop i s.now) }
 {
-    let n = s.len();
-    if n <= i {
+    if s.len() <= i {
         return 0;
     }
-    let left = n - i;
-    let mut m = 0;
-    while m + 8 <= left {
-        let a = i + m;
-        let e = a + 8;
-        let z = others(sort, words::word(&s[a..e]));
+    let (chunks, tail) = s[i..].as_chunks::<8>();
+    for (k, chunk) in chunks.iter().enumerate() {
+        let z = others(sort, words::word(chunk));
         if z != 0 {
-            return m + first(z);
+            return 8 * k + first(z);
         }
-        m += 8;
     }
-    while m < left {
-        if !is(sort, s[i + m]) {
-            break;
-        }
-        m += 1;
-    }
-    m
+    8 * chunks.len() + leading(sort, tail)
 }
 
 // Lays the bytes of a word before the first mark to d at l.
@@ -174,38 +154,29 @@ pub fn copy_run(sort: Sort, d: &mut [u8], l: usize, s: &[u8], i: usize) -> usize
     ensures count { result ≡ lead (is_of sort) (take (length d.old - l) (drop i s.now)) }
     ensures bytes { d.new ≡ paste d.old l (drop i s.now) result }
 {
-    if s.len() <= i {
+    if s.len() <= i || d.len() <= l {
         return 0;
     }
-    if d.len() <= l {
-        return 0;
-    }
-    let left = s.len() - i;
-    let room = d.len() - l;
-    let most = if left < room { left } else { room };
-    let mut m = 0;
-    while m + 8 <= most {
-        let a = i + m;
-        let e = a + 8;
-        let w = words::word(&s[a..e]);
+    let most = (s.len() - i).min(d.len() - l);
+    let (chunks, tail) = s[i..i + most].as_chunks::<8>();
+    for (k, chunk) in chunks.iter().enumerate() {
+        let w = words::word(chunk);
         let z = others(sort, w);
-        let b = l + m;
+        let b = l + 8 * k;
         if z != 0 {
-            return m + blend(d, b, w, z);
+            return 8 * k + blend(d, b, w, z);
         }
-        let c = b + 8;
-        words::put_word(&mut d[b..c], w);
-        m += 8;
+        words::put_word(&mut d[b..b + 8], w);
     }
-    while m < most {
-        let b = s[i + m];
-        if !is(sort, b) {
-            break;
+    let m = 8 * chunks.len();
+    // in one pass: to count first, as `run` does, and then to copy takes a third longer where runs are short
+    for (k, b) in tail.iter().enumerate() {
+        if !is(sort, *b) {
+            return m + k;
         }
-        d[l + m] = b;
-        m += 1;
+        d[l + m + k] = *b;
     }
-    m
+    most
 }
 
 // What bytes outside a frame come to: whether the last of them was noise, how many noises began among them, and the place behind them.
@@ -227,13 +198,7 @@ fn ticked(noisy: bool) -> u64
 fn one_noise(noisy: bool, b: u8) -> usize
     ensures { result ≡ noises_of noisy (b ∷ []) }
 {
-    if is_idle(b) {
-        return 0;
-    }
-    if noisy {
-        return 0;
-    }
-    1
+    if is_idle(b) || noisy { 0 } else { 1 }
 }
 
 // Of marks, for each byte the mark of the one before it; for the first, that of what came before.
@@ -270,55 +235,54 @@ fn noisy_behind(z: u64) -> u64
 pub fn noises(noisy: bool, s: &[u8], i: usize) -> Heard
     ensures { result ≡ noises_at noisy s.now i }
 {
-    let n = s.len();
-    if n <= i {
+    if s.len() <= i {
         return Heard {
             noisy,
             count: 0,
             at: i,
         };
     }
+    let (chunks, tail) = s[i..].as_chunks::<8>();
     let mut before = ticked(noisy);
     let mut count = 0;
-    let mut at = i;
-    while at + 8 <= n {
-        let e = at + 8;
-        let w = words::word(&s[at..e]);
+    for (k, chunk) in chunks.iter().enumerate() {
+        let w = words::word(chunk);
         let z = busy(w);
         if z == 0 {
             before = 0;
-            at = e;
             continue;
         }
         let x = escapes(w);
         let was = behind(z, before);
         if x != 0 {
-            let k = first(x);
+            let j = first(x);
             let more = begun(z, was, below(x));
-            let last = noisy_at(was, k);
+            let last = noisy_at(was, j);
             return Heard {
                 noisy: last != 0,
                 count: count + more,
-                at: at + k,
+                at: i + 8 * k + j,
             };
         }
         count += begun(z, was, 0xffffffffffffffff);
         before = noisy_behind(z);
-        at = e;
     }
+    let at = i + 8 * chunks.len();
     let mut noise = before != 0;
-    while at < n {
-        let b = s[at];
-        if b == 0x7e {
-            break;
+    for (k, b) in tail.iter().enumerate() {
+        if *b == 0x7e {
+            return Heard {
+                noisy: noise,
+                count,
+                at: at + k,
+            };
         }
-        count += one_noise(noise, b);
-        noise = !is_idle(b);
-        at += 1;
+        count += one_noise(noise, *b);
+        noise = !is_idle(*b);
     }
     Heard {
         noisy: noise,
         count,
-        at,
+        at: s.len(),
     }
 }

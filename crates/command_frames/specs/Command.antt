@@ -1,5 +1,5 @@
 -- What a command request and a command response do to the arrays that a function is lent. Assumes nothing.
-use Rattle.std.specs.Prelude.{ℕ, suc, ◌*◌, Bool, false, cond, List, length, get_or, set, eqb, ltb}
+use Rattle.std.specs.Prelude.{ℕ, suc, ◌*◌, Bool, false, cond, List, length, get_or, set, eqb, ltb, Ok, Err}
 use Rattle.std.proofs.Math.Seq.{paste}
 use Rattle.layouts.specs.Layouts.{command_request_length, command_response_length, request_type, request_sequence, request_data, response_type, response_sequence}
 use Rattle.tables.specs.Keys.{first_of, seat_of}
@@ -7,8 +7,9 @@ use Rattle.answers.specs.Counters
 use Rattle.answers.specs.Counters.{raise}
 use Rattle.answers.specs.Stored.{gateway_key, command_key, stride}
 use Rattle.answers.specs.Barred.{unless_barred}
-use Rattle.answers.specs.declared.Answer.{Answer}
-use Rattle.answers.specs.declared.Answer.TheVariants.{WrongDirection, WrongLength, SequencesFull, CommandsFull, NoRequest, CommandKept, CommandExecuted}
+use Rattle.answers.specs.Refusals.{Answer}
+use Rattle.answers.specs.declared.Accepted.TheVariants.{CommandKept, CommandExecuted}
+use Rattle.answers.specs.declared.Refusal.TheVariants.{WrongDirection, WrongLength, SequencesFull, CommandsFull, NoRequest}
 
 -- the arrays of the waiting commands
 pub record Seated : Type 0 where
@@ -61,20 +62,20 @@ abbrev pub requested_at : ℕ → ℕ → Noted → Seated → ℕ → List ℕ 
 requested_at q i n s g p =
     cond (ltb q 32)
     (cond (ltb i 64)
-    (requested CommandKept (note_in n q (suc (gateway_key g)) (request_sequence p)) (keep_in s i (suc (command_key g (request_sequence p))) p))
-    (requested CommandsFull n s))
-    (requested SequencesFull n s)
+    (requested (Ok CommandKept) (note_in n q (suc (gateway_key g)) (request_sequence p)) (keep_in s i (suc (command_key g (request_sequence p))) p))
+    (requested (Err CommandsFull) n s))
+    (requested (Err SequencesFull) n s)
 
 -- behind 13 and 32
 unfoldable pub asked_in : Noted → Seated → Bool → ℕ → List ℕ → Requested
 asked_in n s from g p =
-    cond from (requested WrongDirection (invalid n) s)
-    (cond (ltb (length p) command_request_length) (requested WrongLength (invalid n) s)
+    cond from (requested (Err WrongDirection) (invalid n) s)
+    (cond (ltb (length p) command_request_length) (requested (Err WrongLength) (invalid n) s)
     (requested_at (seat_of n.skeys (suc (gateway_key g))) (seat_of s.ckeys (suc (command_key g (request_sequence p)))) n s g p))
 
 -- the whole of it: 13 and 32 first
 unfoldable pub command_request_in : Noted → Seated → Bool → ℕ → List ℕ → Requested
-command_request_in n s from g p = unless_barred g p (λ a. requested a n s) (asked_in n s from g p)
+command_request_in n s from g p = unless_barred g p (λ a. requested (Err a) n s) (asked_in n s from g p)
 
 -- a command response
 pub record Answered : Type 0 where
@@ -90,17 +91,17 @@ answered a ks cs = record { answer = a; ckeys = ks; counters = cs }
 abbrev pub answered_at : ℕ → List ℕ → List ℕ → List ℕ → List ℕ → List ℕ → Answered
 answered_at i ks ts ls cs p =
     cond (ltb i 64)
-    (answered (CommandExecuted i (record { 0 = get_or ts i 0 }) (get_or ls i 0) (record { 0 = response_type p })) (set ks i 0) (raise Counters.command_responses cs))
-    (answered NoRequest ks (raise Counters.retransmitted_command_responses cs))
+    (answered (Ok (CommandExecuted i (record { 0 = get_or ts i 0 }) (get_or ls i 0) (record { 0 = response_type p }))) (set ks i 0) (raise Counters.command_responses cs))
+    (answered (Err NoRequest) ks (raise Counters.retransmitted_command_responses cs))
 
 -- behind 13 and 32
 unfoldable pub finished_in : List ℕ → List ℕ → List ℕ → List ℕ → Bool → ℕ → List ℕ → Answered
 finished_in ks ts ls cs from g p =
     cond from
-    (cond (ltb (length p) command_response_length) (answered WrongLength ks (raise Counters.invalid_command_responses cs))
+    (cond (ltb (length p) command_response_length) (answered (Err WrongLength) ks (raise Counters.invalid_command_responses cs))
     (answered_at (first_of ks (suc (command_key g (response_sequence p)))) ks ts ls cs p))
-    (answered WrongDirection ks (raise Counters.invalid_command_responses cs))
+    (answered (Err WrongDirection) ks (raise Counters.invalid_command_responses cs))
 
 -- the whole of it: 13 and 32 first
 unfoldable pub command_response_in : List ℕ → List ℕ → List ℕ → List ℕ → Bool → ℕ → List ℕ → Answered
-command_response_in ks ts ls cs from g p = unless_barred g p (λ a. answered a ks cs) (finished_in ks ts ls cs from g p)
+command_response_in ks ts ls cs from g p = unless_barred g p (λ a. answered (Err a) ks cs) (finished_in ks ts ls cs from g p)

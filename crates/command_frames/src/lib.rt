@@ -1,17 +1,18 @@
 // Command requests and responses: the tables of last sequences and of waiting commands.
+// The tables are lent array by array, as C lends them to the door: a struct of them would be a copy.
 #![tactic(auto)]
 
 ghost use Rattle.std.specs.Prelude.{◌≡◌, ◌*◌, ◌≤◌, ◌<◌, length, drop};
 ghost use Rattle.std.proofs.Math.Seq.{paste};
+ghost use Rattle.address.specs.Address.{is_from, gateway_of};
 ghost use Rattle.link.specs.Wire.{payload_limit};
 ghost use Rattle.answers.specs.Stored.{stride};
 ghost use Rattle.command_frames.specs.Command.{Seated, keep_in, Noted, is_last_in, note_in, Requested, asked_in, command_request_in, Answered, finished_in, command_response_in};
 
-use address::{GatewayID, ID_LIMIT};
-use answers::Answer;
-use answers::counters::*;
+use address::Address;
+use answers::counters::Counter;
 use answers::entries::{POOL, STRIDE, command_key, gateway_key, raise};
-use link::PAYLOAD_LIMIT;
+use answers::{Accepted, Answer, Refusal, barred};
 use network::PacketType;
 use transport::CommandSequenceNumber;
 use words::copy_in;
@@ -27,6 +28,7 @@ fn keep_payload(cpayloads: &mut [u8; POOL], i: usize, payload: &[u8]) -> u16
 }
 
 // A command request into place i of its table.
+#[tactic(auto, unfolding(crate::specs::Command::keep_in))]
 fn keep(
     ckeys: &mut [u32; 64],
     ctypes: &mut [u8; 64],
@@ -45,6 +47,7 @@ fn keep(
 }
 
 // Whether place q holds the gateway's key and this sequence.
+#[tactic(auto, unfolding(crate::specs::Command::is_last_in))]
 fn is_last(
     skeys: &[u32; 32],
     sequences: &[u8; 32],
@@ -55,14 +58,11 @@ fn is_last(
     requires { q < 32 }
     ensures { result ≡ is_last_in skeys.now sequences.now q key sequence.0 }
 {
-    if skeys[q] == key {
-        sequences[q] == sequence.0
-    } else {
-        false
-    }
+    skeys[q] == key && sequences[q] == sequence.0
 }
 
 // The gateway's last sequence noted at place q, and the request counted: as retransmitted if it was the last before.
+#[tactic(auto, unfolding(crate::specs::Command::note_in))]
 fn note(
     skeys: &mut [u32; 32],
     sequences: &mut [u8; 32],
@@ -75,15 +75,16 @@ fn note(
     ensures { ◌≡◌ {A = Noted} (record { skeys = skeys.exit.now; sequences = sequences.new; counters = counters.new }) (note_in (record { skeys = skeys.entry.now; sequences = sequences.old; counters = counters.old }) q key sequence.0) }
 {
     if is_last(skeys, sequences, q, key, sequence) {
-        raise(counters, RETRANSMITTED_COMMAND_REQUESTS);
+        raise(counters, Counter::RetransmittedCommandRequests);
         return;
     }
     skeys[q] = key;
     sequences[q] = sequence.0;
-    raise(counters, COMMAND_REQUESTS);
+    raise(counters, Counter::CommandRequests);
 }
 
 // A command request that 13 and 32 do not refuse. Refused by 20, 21, 26, 27, in this order.
+#[tactic(auto, unfolding(crate::specs::Command::asked_in))]
 fn ask(
     skeys: &mut [u32; 32],
     sequences: &mut [u8; 32],
@@ -92,38 +93,36 @@ fn ask(
     clengths: &mut [u16; 64],
     cpayloads: &mut [u8; POOL],
     counters: &mut [u64; 33],
-    from: bool,
-    gateway: GatewayID,
+    address: Address,
     payload: &[u8],
 ) -> Answer
     requires { length payload.now ≤ payload_limit }
-    ensures { ◌≡◌ {A = Requested} (record { answer = result; noted = record { skeys = skeys.exit.now; sequences = sequences.new; counters = counters.new }; seated = record { ckeys = ckeys.exit.now; ctypes = ctypes.new; clengths = clengths.new; cpayloads = cpayloads.new } }) (asked_in (record { skeys = skeys.entry.now; sequences = sequences.old; counters = counters.old }) (record { ckeys = ckeys.entry.now; ctypes = ctypes.old; clengths = clengths.old; cpayloads = cpayloads.old }) from gateway.0 payload.now) }
+    ensures { ◌≡◌ {A = Requested} (record { answer = result; noted = record { skeys = skeys.exit.now; sequences = sequences.new; counters = counters.new }; seated = record { ckeys = ckeys.exit.now; ctypes = ctypes.new; clengths = clengths.new; cpayloads = cpayloads.new } }) (asked_in (record { skeys = skeys.entry.now; sequences = sequences.old; counters = counters.old }) (record { ckeys = ckeys.entry.now; ctypes = ctypes.old; clengths = clengths.old; cpayloads = cpayloads.old }) (is_from address) (gateway_of address) payload.now) }
 {
-    if from {
-        raise(counters, INVALID_COMMAND_REQUESTS);
-        return Answer::WrongDirection;
+    if address.is_from() {
+        raise(counters, Counter::InvalidCommandRequests);
+        return Err(Refusal::WrongDirection);
     }
     if payload.len() < 5 {
-        raise(counters, INVALID_COMMAND_REQUESTS);
-        return Answer::WrongLength;
+        raise(counters, Counter::InvalidCommandRequests);
+        return Err(Refusal::WrongLength);
     }
     let sequence = CommandSequenceNumber(payload[4]);
-    let gkey = gateway_key(gateway);
-    let q = tables::seat(skeys, gkey);
-    if q < 32 {
-        let ckey = command_key(gateway, sequence);
-        let i = tables::seat(ckeys, ckey);
-        if i < 64 {
-            keep(ckeys, ctypes, clengths, cpayloads, i, ckey, payload);
-            note(skeys, sequences, counters, q, gkey, sequence);
-            return Answer::CommandKept;
-        }
-        return Answer::CommandsFull;
-    }
-    Answer::SequencesFull
+    let gkey = gateway_key(address.gateway());
+    let Some(q) = tables::seat(skeys, gkey) else {
+        return Err(Refusal::SequencesFull);
+    };
+    let ckey = command_key(address.gateway(), sequence);
+    let Some(i) = tables::seat(ckeys, ckey) else {
+        return Err(Refusal::CommandsFull);
+    };
+    keep(ckeys, ctypes, clengths, cpayloads, i, ckey, payload);
+    note(skeys, sequences, counters, q, gkey, sequence);
+    Ok(Accepted::CommandKept)
 }
 
 // A command request: kept under gateway and sequence, and its sequence noted as the gateway's last. Refused by 13, 32, 20, 21, 26, 27, in this order.
+#[tactic(auto, unfolding(crate::specs::Command::command_request_in))]
 pub fn command_request(
     skeys: &mut [u32; 32],
     sequences: &mut [u8; 32],
@@ -132,77 +131,65 @@ pub fn command_request(
     clengths: &mut [u16; 64],
     cpayloads: &mut [u8; POOL],
     counters: &mut [u64; 33],
-    from: bool,
-    gateway: GatewayID,
+    address: Address,
     payload: &[u8],
 ) -> Answer
-    ensures { ◌≡◌ {A = Requested} (record { answer = result; noted = record { skeys = skeys.exit.now; sequences = sequences.new; counters = counters.new }; seated = record { ckeys = ckeys.exit.now; ctypes = ctypes.new; clengths = clengths.new; cpayloads = cpayloads.new } }) (command_request_in (record { skeys = skeys.entry.now; sequences = sequences.old; counters = counters.old }) (record { ckeys = ckeys.entry.now; ctypes = ctypes.old; clengths = clengths.old; cpayloads = cpayloads.old }) from gateway.0 payload.now) }
+    ensures { ◌≡◌ {A = Requested} (record { answer = result; noted = record { skeys = skeys.exit.now; sequences = sequences.new; counters = counters.new }; seated = record { ckeys = ckeys.exit.now; ctypes = ctypes.new; clengths = clengths.new; cpayloads = cpayloads.new } }) (command_request_in (record { skeys = skeys.entry.now; sequences = sequences.old; counters = counters.old }) (record { ckeys = ckeys.entry.now; ctypes = ctypes.old; clengths = clengths.old; cpayloads = cpayloads.old }) (is_from address) (gateway_of address) payload.now) }
 {
-    if ID_LIMIT < gateway.0 {
-        return Answer::InvalidGatewayID;
-    }
-    if PAYLOAD_LIMIT < payload.len() {
-        return Answer::PayloadTooLong;
-    }
+    barred(address, payload)?;
     ask(
-        skeys, sequences, ckeys, ctypes, clengths, cpayloads, counters, from, gateway, payload,
+        skeys, sequences, ckeys, ctypes, clengths, cpayloads, counters, address, payload,
     )
 }
 
 // A command response that 13 and 32 do not refuse. Refused by 20, 21, 30, in this order.
+#[tactic(auto, unfolding(crate::specs::Command::finished_in))]
 fn finish(
     ckeys: &mut [u32; 64],
     ctypes: &[u8; 64],
     clengths: &[u16; 64],
     counters: &mut [u64; 33],
-    from: bool,
-    gateway: GatewayID,
+    address: Address,
     payload: &[u8],
 ) -> Answer
-    ensures { ◌≡◌ {A = Answered} (record { answer = result; ckeys = ckeys.new; counters = counters.new }) (finished_in ckeys.old ctypes.now clengths.now counters.old from gateway.0 payload.now) }
+    ensures { ◌≡◌ {A = Answered} (record { answer = result; ckeys = ckeys.new; counters = counters.new }) (finished_in ckeys.old ctypes.now clengths.now counters.old (is_from address) (gateway_of address) payload.now) }
 {
-    if !from {
-        raise(counters, INVALID_COMMAND_RESPONSES);
-        return Answer::WrongDirection;
+    if !address.is_from() {
+        raise(counters, Counter::InvalidCommandResponses);
+        return Err(Refusal::WrongDirection);
     }
     if payload.len() < 5 {
-        raise(counters, INVALID_COMMAND_RESPONSES);
-        return Answer::WrongLength;
+        raise(counters, Counter::InvalidCommandResponses);
+        return Err(Refusal::WrongLength);
     }
     let sequence = CommandSequenceNumber(payload[4]);
-    let key = command_key(gateway, sequence);
-    let i = tables::find(ckeys, key);
-    if i < 64 {
-        ckeys[i] = tables::FREE;
-        raise(counters, COMMAND_RESPONSES);
-        return Answer::CommandExecuted {
-            place: i,
-            request: PacketType(ctypes[i]),
-            length: clengths[i],
-            response: PacketType(payload[3]),
-        };
-    }
-    raise(counters, RETRANSMITTED_COMMAND_RESPONSES);
-    Answer::NoRequest
+    let key = command_key(address.gateway(), sequence);
+    let Some(i) = tables::find(ckeys, key) else {
+        raise(counters, Counter::RetransmittedCommandResponses);
+        return Err(Refusal::NoRequest);
+    };
+    ckeys[i] = tables::FREE;
+    raise(counters, Counter::CommandResponses);
+    Ok(Accepted::CommandExecuted {
+        place: i,
+        request: PacketType(ctypes[i]),
+        length: clengths[i],
+        response: PacketType(payload[3]),
+    })
 }
 
 // A command response: takes its request out. Refused by 13, 32, 20, 21, 30, in this order.
+#[tactic(auto, unfolding(crate::specs::Command::command_response_in))]
 pub fn command_response(
     ckeys: &mut [u32; 64],
     ctypes: &[u8; 64],
     clengths: &[u16; 64],
     counters: &mut [u64; 33],
-    from: bool,
-    gateway: GatewayID,
+    address: Address,
     payload: &[u8],
 ) -> Answer
-    ensures { ◌≡◌ {A = Answered} (record { answer = result; ckeys = ckeys.new; counters = counters.new }) (command_response_in ckeys.old ctypes.now clengths.now counters.old from gateway.0 payload.now) }
+    ensures { ◌≡◌ {A = Answered} (record { answer = result; ckeys = ckeys.new; counters = counters.new }) (command_response_in ckeys.old ctypes.now clengths.now counters.old (is_from address) (gateway_of address) payload.now) }
 {
-    if ID_LIMIT < gateway.0 {
-        return Answer::InvalidGatewayID;
-    }
-    if PAYLOAD_LIMIT < payload.len() {
-        return Answer::PayloadTooLong;
-    }
-    finish(ckeys, ctypes, clengths, counters, from, gateway, payload)
+    barred(address, payload)?;
+    finish(ckeys, ctypes, clengths, counters, address, payload)
 }

@@ -1,25 +1,29 @@
 // A program's words: options before or after at most one name of an input.
 use std::env::{Env, FillError};
 
-// What the words ask for: the program's work, its help, or that its usage is told. `TooLong` is a word that no buffer holds.
-#[derive(Drop)]
+// Where the input is: on standard input, or in the file that an argument names.
+#[derive(Clone, Copy)]
+pub enum Named {
+    Standard,
+    Argument(usize),
+}
+
+// What the words ask for: the program's work on an input, with its own option or without, or its help.
+#[derive(Clone, Copy)]
 pub enum Asked {
-    Work,
+    Work { input: Named, own: bool },
     Help,
+}
+
+// What is wrong with words: they are none of the usage's, or no buffer holds one of them.
+#[derive(Clone, Copy, PartialEq, Eq)]
+pub enum WrongWords {
     Usage,
     TooLong,
 }
 
-// What the words say: the argument that names the input, 0 for standard input, and whether the program's own option is among them.
-#[derive(Drop)]
-pub struct Words {
-    pub asked: Asked,
-    pub file: usize,
-    pub own: bool,
-}
-
 // A single word.
-#[derive(Drop)]
+#[derive(Clone, Copy)]
 enum Word {
     Help,
     Own,
@@ -29,74 +33,36 @@ enum Word {
 }
 
 fn word_of(word: &[u8], own: &[u8]) -> Word {
-    if word.len() == 0 {
-        return Word::Name;
-    }
-    if word[0] != b'-' {
-        return Word::Name;
-    }
-    if word.len() == 1 {
-        return Word::Dash;
-    }
-    if word == b"--help".as_slice() {
-        return Word::Help;
-    }
-    if word == own {
-        return Word::Own;
-    }
-    Word::Unknown
-}
-
-fn answer(asked: Asked) -> Words {
-    Words {
-        asked: asked,
-        file: 0,
-        own: false,
+    match word {
+        [b'-'] => Word::Dash,
+        [b'-', ..] if word == own => Word::Own,
+        b"--help" => Word::Help,
+        [b'-', ..] => Word::Unknown,
+        _ => Word::Name,
     }
 }
 
 // The words of the program, read in order. `own` is the one option that it has beside `--help`; empty if it has none.
-pub fn read(rt: &HostRuntime, own: &[u8]) -> Words {
+pub fn read(rt: &HostRuntime, own: &[u8]) -> Result<Asked, WrongWords> {
     let mut space = io::buffer();
-    let word: &mut [u8] = &mut space;
-    let mut file = 0;
-    let mut named = false;
+    let mut input = None;
     let mut chosen = false;
     for i in 1..usize::MAX {
-        let n = match rt.arg(i, word) {
+        let n = match rt.arg(i, &mut space) {
             Ok(n) => n,
             Err(FillError::NotPresent) => break,
-            Err(FillError::TooLong) => return answer(Asked::TooLong),
+            Err(FillError::TooLong) => return Err(WrongWords::TooLong),
         };
-        let w = word_of(&word[..n], own);
-        match w {
-            Word::Help => {
-                return answer(Asked::Help);
-            }
-            Word::Unknown => {
-                return answer(Asked::Usage);
-            }
-            Word::Own => {
-                chosen = true;
-            }
-            Word::Dash => {
-                if named {
-                    return answer(Asked::Usage);
-                }
-                named = true;
-            }
-            Word::Name => {
-                if named {
-                    return answer(Asked::Usage);
-                }
-                named = true;
-                file = i;
-            }
+        match word_of(&space[..n], own) {
+            Word::Help => return Ok(Asked::Help),
+            Word::Own => chosen = true,
+            Word::Dash if input.is_none() => input = Some(Named::Standard),
+            Word::Name if input.is_none() => input = Some(Named::Argument(i)),
+            _ => return Err(WrongWords::Usage),
         }
     }
-    Words {
-        asked: Asked::Work,
-        file: file,
+    Ok(Asked::Work {
+        input: input.unwrap_or(Named::Standard),
         own: chosen,
-    }
+    })
 }

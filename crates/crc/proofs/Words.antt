@@ -1,17 +1,18 @@
 -- The check of bytes, as bits of the number that they make, and the laws that the functions of words cite. Assumes nothing.
 use mathlib.Core.Path.{◌≡◌, refl, sym, ap, ap₂, ◌∙◌}
 use mathlib.Core.List.{List, [], ◌∷◌}
-use Prim.Native.Nat.{ℕ, zero, suc, ◌+◌, ◌*◌, ◌/◌, ◌%◌, ◌^◌, ◌<◌, ◌≤◌}
+use Prim.Native.Nat.{ℕ, zero, suc, ◌+◌, ◌-◌, ◌*◌, ◌/◌, ◌%◌, ◌^◌, ◌<◌, ◌≤◌}
 use native.Mathlib.Nat.{zero-lt-suc, add-zero, zero-add, suc-add, add-suc, add_comm, add_assoc, mul_comm, mul_assoc, add-mul, suc-mul, mul-one, mod-eq_of_lt, div-eq_of_lt}
 use native.Mathlib.Omega.{arith}
 use lib.Pow.{pow-add, pow_mono, high}
 use lib.Bits.{bit_xor, xor_comm, xor_zero_l, xor_zero_r, xor_shifted, xor_lt}
 use lib.ListN.{length, get_or, take, drop, length-take, length-drop, take-append-drop}
 use lib.Seq.{drop-cons, take-add, take_all, take-length}
+use Rattle.std.specs.Simd.{first_chunks}
 use Rattle.laws.specs.Bytes.{Bytes}
 use Rattle.laws.proofs.Bits.{xor_assoc}
 use Rattle.words.specs.Words.{le_of, number_of}
-use Rattle.words.proofs.Laws.{number_is}
+use Rattle.words.proofs.Laws.{number_is, chunk-from}
 use Rattle.crc.specs.Crc.{crc_bits, crc_byte, crc_from}
 use Rattle.crc.specs.Words.{le_at, crc_words}
 use Rattle.crc.proofs.Laws.{crc_bits-above, crc_from-append}
@@ -229,3 +230,15 @@ le_at-part b i n m r h em er =
     ∙ number_is n (take n (drop i b)) (simp (length-take, length-drop) (omega arith))
     ∙ ap (λ (k : ℕ). le_of (take n (drop k b))) (sym (add-zero i))
     ∙ le_of-at b i 0 n (omega arith)
+
+-- the loops over chunks of eight cite this: the word of such a chunk
+pub chunk-word : (b : List ℕ) (cs : List (List ℕ)) (k i w : ℕ) (d : List ℕ) → cs ≡ first_chunks 8 (length b / 8) b → length cs ≡ length b / 8 → i < length (take (length cs - k) (drop k cs))
+    → w ≡ number_of 8 (get_or (take (length cs - k) (drop k cs)) i d) → ((k + i) * 8 + 8 ≤ length b) × (w ≡ le_at b ((k + i) * 8) 0 8)
+chunk-word b cs k i w d e l h ew =
+    let u : i < length cs - k = omega (arith, simp (length-take, length-drop) at h) in
+    let g : (k + i) * 8 + 8 ≤ length b = omega arith in
+    (g, le_at-part b ((k + i) * 8) 8 8 w g refl (ew ∙ ap (number_of 8) (chunk-from 8 (length b / 8) k i b d cs e l u)))
+
+-- .. and the place behind the last of them
+pub chunks-end : (cs : List (List ℕ)) (k i : ℕ) → k ≤ length cs → i ≤ length (take (length cs - k) (drop k cs)) → length (take (length cs - k) (drop k cs)) ≤ i → (k + i) * 8 ≡ 8 * length cs
+chunks-end cs k i h p q = omega (arith, simp (length-take, length-drop) at p, simp (length-take, length-drop) at q)

@@ -20,10 +20,8 @@ fn crc_by(entries: &[u16; 256], start: u16, buffer: &[u8]) -> u16
     ensures { result ≡ crc_from start buffer.now }
 {
     let mut crc = start;
-    let mut i = 0;
-    while i < buffer.len() {
-        crc = crc_byte(entries, crc, buffer[i]);
-        i += 1;
+    for b in buffer {
+        crc = crc_byte(entries, crc, *b);
     }
     crc
 }

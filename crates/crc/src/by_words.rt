@@ -5,7 +5,7 @@ ghost use Rattle.crc.specs.Words.{le_at, crc_words};
 
 use crate::by_table::crc_plain;
 
-// The four bytes at i, the first lowest.
+// The four bytes at i, the first lowest. It differs from `word_at` as `words::half` does from `words::word`: a number has its length in its type.
 fn half_at(b: &[u8], i: usize) -> u64
     requires { i + 4 ≤ length b.now }
     ensures { (result ≡ le_at b.now i 0 4) × (result < 2 ^ 32) }
@@ -71,48 +71,36 @@ fn tail(x: u64, b: &[u8], i: usize) -> u64
 }
 
 // The check of four to seven bytes.
-fn crc_few(start: u64, b: &[u8]) -> u64
-    requires { (start < 2 ^ 16) × (4 ≤ length b.now) × (length b.now < 8) }
+fn crc_few(start: u16, b: &[u8]) -> u64
+    requires { (4 ≤ length b.now) × (length b.now < 8) }
     ensures { result ≡ crc_from start b.now }
 {
     let n = b.len();
     let high = (8 - n) * 8;
     let upper = half_at(b, n - 4) >> high;
-    settle((start ^ half_at(b, 0) ^ (upper << 32)) << high)
+    settle((start as u64 ^ half_at(b, 0) ^ (upper << 32)) << high)
 }
 
-// The check of just four bytes, as of a frame with no payload: of `settle` the lower half of the word asks for nothing.
-fn crc_four(start: u64, b: &[u8]) -> u64
-    requires { (start < 2 ^ 16) × (length b.now ≡ 4) }
+// The check of just four bytes, as of a frame with no payload: by a way that is shorter than `crc_few`, since of `settle` the lower half of the
+// word asks for nothing.
+fn crc_four(start: u16, b: &[u8]) -> u64
+    requires { length b.now ≡ 4 }
     ensures { result ≡ crc_from start b.now }
 {
-    settle((start ^ half_at(b, 0)) << 32)
-}
-
-// The check of four to seven bytes: of four, which a frame with no payload has, by the short way.
-fn crc_short(start: u64, b: &[u8]) -> u64
-    requires { (start < 2 ^ 16) × (4 ≤ length b.now) × (length b.now < 8) }
-    ensures { result ≡ crc_from start b.now }
-{
-    if b.len() == 4 {
-        return crc_four(start, b);
-    }
-    crc_few(start, b)
+    settle((start as u64 ^ half_at(b, 0)) << 32)
 }
 
 // The check of eight bytes or more, a word at a time.
-fn crc_words(start: u64, b: &[u8]) -> u64
+fn crc_words(start: u16, b: &[u8]) -> u64
     requires { 8 ≤ length b.now }
     ensures { result ≡ crc_from start b.now }
 {
-    let n = b.len();
-    let mut x = start ^ word_at(b, 0);
-    let mut i = 8;
-    while i + 8 <= n {
-        x = word_at(b, i) ^ fold(x);
-        i += 8;
+    let (chunks, _) = b.as_chunks::<8>();
+    let mut x = start as u64 ^ word_at(b, 0);
+    for chunk in &chunks[1..] {
+        x = words::word(chunk) ^ fold(x);
     }
-    settle(tail(x, b, i))
+    settle(tail(x, b, 8 * chunks.len()))
 }
 
 // A word as it is, of which 64 bits are all.
@@ -123,39 +111,36 @@ fn whole(x: u64) -> u64
 }
 
 // The check of 32 bytes or more: by the sixteenth power, x^256 + x^192 + x^80 + 1, a word is passed on to the four after it.
-fn crc_many(start: u64, b: &[u8]) -> u64
+fn crc_many(start: u16, b: &[u8]) -> u64
     requires { 32 ≤ length b.now }
     ensures { result ≡ crc_from start b.now }
 {
-    let n = b.len();
-    let mut t = start ^ word_at(b, 0);
+    let (chunks, _) = b.as_chunks::<8>();
+    let mut t = start as u64 ^ word_at(b, 0);
     let mut u = word_at(b, 8);
     let mut v = word_at(b, 16);
     let mut w = word_at(b, 24);
-    let mut i = 32;
-    while i + 8 <= n {
+    for chunk in &chunks[4..] {
         let x = whole(t);
         t = u ^ x;
         u = v ^ (x << 48);
         v = w ^ (x >> 16);
-        w = word_at(b, i) ^ x;
-        i += 8;
+        w = words::word(chunk) ^ x;
     }
-    settle(tail(joined(t, u, v, w), b, i))
+    settle(tail(joined(t, u, v, w), b, 8 * chunks.len()))
 }
 
-// The check by words.
-fn crc_wide(start: u64, b: &[u8]) -> u64
-    requires { (start < 2 ^ 16) × (4 ≤ length b.now) }
+// The check of four bytes or more.
+fn crc_wide(start: u16, b: &[u8]) -> u64
+    requires { 4 ≤ length b.now }
     ensures { result ≡ crc_from start b.now }
 {
-    if b.len() < 8 {
-        return crc_short(start, b);
+    match b.len() {
+        4 => crc_four(start, b),
+        5..=7 => crc_few(start, b),
+        8..=31 => crc_words(start, b),
+        _ => crc_many(start, b),
     }
-    if b.len() < 32 {
-        return crc_words(start, b);
-    }
-    crc_many(start, b)
 }
 
 // The check from any start: up to three bytes by the table, more by words.
@@ -165,5 +150,5 @@ pub fn crc_fast(start: u16, buffer: &[u8]) -> u16
     if buffer.len() < 4 {
         return crc_plain(start, buffer);
     }
-    crc_wide(start as u64, buffer) as u16
+    crc_wide(start, buffer) as u16
 }

@@ -1,17 +1,15 @@
 -- How the link receiver's state and answers cross a door. Assumes nothing.
-use Rattle.std.specs.Prelude.{ℕ, ◌*◌, ◌^◌, List, [], ◌∷◌}
+use Rattle.std.specs.Prelude.{ℕ, ◌*◌, ◌^◌, List, [], ◌∷◌, Some, None, Ok, Err}
 use Rattle.laws.specs.Handed.{Handed, refused, value}
 use Rattle.address.specs.Handed.{number_handed}
 use Rattle.link_receive.specs.declared.Receiver.{Receiver}
-use Rattle.link_receive.specs.declared.Answer.{Answer}
-use Rattle.link_receive.specs.declared.Answer.TheVariants as answer
 use Rattle.crc.specs.Crc.{crc_of}
 use Rattle.link_receive.specs.declared.Stepped.{Stepped}
 use Rattle.link_feed.specs.declared.Fed.{Fed}
 use Rattle.link_receive.specs.Step.{step_of, fresh_of, reset_of}
 use Rattle.link_feed.specs.Feed.{feed_of}
 use Rattle.link_feed.specs.Drain.{extend_of}
-use Rattle.link_receive.specs.Frames.{Given, nothing, frame, handed}
+use Rattle.link_receive.specs.Frames.{Given, nothing, frame, Answered, handed}
 use Rattle.link_receive.specs.Numbered.{receiver_at}
 use Rattle.doors.specs.Numbered.{numbered}
 
@@ -26,20 +24,19 @@ crossing (value g) = given_as g
 crossing (refused n) = n * 2 ^ 32
 
 -- an answer, by 01's number for it
-abbrev pub told : Answer → ℕ
+abbrev pub told : Answered → ℕ
 told a = crossing (handed a)
 
 -- a step takes one byte, unless it is refused
-abbrev pub taken_by : Answer → ℕ
-taken_by answer.Nothing = 1
-taken_by (answer.Frame address t n) = 1
-taken_by answer.Refused = 0
+abbrev pub taken_by : Answered → ℕ
+taken_by (Ok a) = 1
+taken_by (Err e) = 0
 
 -- an answer, and of a frame the 16 bits of its address and of its type and the length of its payload
-abbrev pub found_of : Answer → List ℕ
-found_of answer.Nothing = told answer.Nothing ∷ 0 ∷ 0 ∷ 0 ∷ []
-found_of (answer.Frame address t n) = told (answer.Frame address t n) ∷ numbered (number_handed address) ∷ t.0 ∷ n ∷ []
-found_of answer.Refused = told answer.Refused ∷ 0 ∷ 0 ∷ 0 ∷ []
+abbrev pub found_of : Answered → List ℕ
+found_of (Ok None) = told (Ok None) ∷ 0 ∷ 0 ∷ 0 ∷ []
+found_of (Ok (Some h)) = told (Ok (Some h)) ∷ numbered (number_handed h.address) ∷ h.frame_type.0 ∷ h.len ∷ []
+found_of (Err e) = told (Err e) ∷ 0 ∷ 0 ∷ 0 ∷ []
 
 -- at the receiver that ten numbers and a body say, what comes of a byte ..
 abbrev pub pushed_at : List ℕ → List ℕ → ℕ → Stepped

@@ -3,7 +3,7 @@ ghost use Rattle.std.specs.Prelude.{◌≡◌};
 ghost use Rattle.transport_receiver.specs.Lent.{arrays, reset_in};
 ghost use Rattle.doors.specs.Dispatch.{crossed_by, step_answer, step_news, stepped_at, reset_answer};
 
-use answers::said::Said;
+use answers::{Accepted, Answer};
 use link::Type;
 use transport_receiver::POOL;
 
@@ -17,61 +17,61 @@ struct Crossed {
 // The number: a refusal by its number in 01's table; 0 for a frame that is counted and no more, 9 for a command kept, and otherwise the kind of
 // its event in 01's event record. Besides: the value of a refusal that has one; the gateway named; number, slot counter, repeat mark and where the
 // packets start; or the request's place, type and length and the response's type. Zeros for any other.
-fn crossed_by(s: Said) -> Crossed
-    ensures { result ≡ crossed_by s }
+fn crossed_by(answer: Answer) -> Crossed
+    ensures { result ≡ crossed_by answer }
 {
-    match s {
-        Said::Refused(n) => Crossed {
-            number: (n as u64) << 32,
-            news: [0, 0, 0, 0],
+    match answer {
+        Err(refusal) => Crossed {
+            number: (refusal.number() as u64) << 32,
+            news: [refusal.needed().unwrap_or(0) as u64, 0, 0, 0],
         },
-        Said::RefusedWith(n, value) => Crossed {
-            number: (n as u64) << 32,
-            news: [value as u64, 0, 0, 0],
-        },
-        Said::Counted => Crossed {
+        Ok(Accepted::Counted) => Crossed {
             number: 0,
             news: [0, 0, 0, 0],
         },
-        Said::Kept => Crossed {
+        Ok(Accepted::CommandKept) => Crossed {
             number: 9,
             news: [0, 0, 0, 0],
         },
-        Said::Started(gateway) => Crossed {
+        Ok(Accepted::EnumerationStarted { gateway }) => Crossed {
             number: 1,
             news: [gateway.0 as u64, 0, 0, 0],
         },
-        Said::Identity => Crossed {
+        Ok(Accepted::IdentityObserved) => Crossed {
             number: 2,
             news: [0, 0, 0, 0],
         },
-        Said::Version => Crossed {
+        Ok(Accepted::VersionObserved) => Crossed {
             number: 3,
             news: [0, 0, 0, 0],
         },
-        Said::Ended => Crossed {
+        Ok(Accepted::EnumerationEnded) => Crossed {
             number: 4,
             news: [0, 0, 0, 0],
         },
-        Said::Captured => Crossed {
+        Ok(Accepted::SlotCounterCaptured) => Crossed {
             number: 5,
             news: [0, 0, 0, 0],
         },
-        Said::Slot {
-            number,
-            slot,
-            repeat,
-            area,
-        } => Crossed {
+        Ok(
+            Accepted::SlotCounterObserved {
+                number,
+                slot,
+                repeat,
+                area,
+            },
+        ) => Crossed {
             number: 6,
             news: [number.0 as u64, slot.0 as u64, repeat as u64, area as u64],
         },
-        Said::Command {
-            place,
-            request,
-            length,
-            response,
-        } => Crossed {
+        Ok(
+            Accepted::CommandExecuted {
+                place,
+                request,
+                length,
+                response,
+            },
+        ) => Crossed {
             number: 8,
             news: [
                 place as u64,
@@ -120,13 +120,14 @@ pub extern "C" fn johkkesir_transport_step(
         Type(frame_type),
         payload,
     );
-    let c = crossed_by(answers::said::said_of(a));
+    let c = crossed_by(a);
     let n = c.news;
     *news = n;
     c.number
 }
 
 // The counters to 0, and nothing else; or 12, and nothing changes.
+#[tactic(auto, unfolding(transport_receiver::specs::Lent::reset_in))]
 #[unsafe(no_mangle)]
 pub extern "C" fn johkkesir_transport_reset(
     nkeys: &mut [u32; 32],
@@ -139,9 +140,11 @@ pub extern "C" fn johkkesir_transport_reset(
     cpayloads: &mut [u8; POOL],
     counters: &mut [u64; 33],
 ) -> u64
-    ensures value { result ≡ reset_answer (reset_in (arrays nkeys.old numbers.old skeys.old sequences.old ckeys.old ctypes.old clengths.old cpayloads.old counters.old)).over }
+    ensures value { result ≡ reset_answer (reset_in (arrays nkeys.old numbers.old skeys.old sequences.old ckeys.old ctypes.old clengths.old cpayloads.old counters.old)).answer }
     ensures counters_after { arrays nkeys.new numbers.new skeys.new sequences.new ckeys.new ctypes.new clengths.new cpayloads.new counters.new ≡ (reset_in (arrays nkeys.old numbers.old skeys.old sequences.old ckeys.old ctypes.old clengths.old cpayloads.old counters.old)).receiver }
 {
-    let over = transport_receiver::reset_in(ckeys, clengths, counters);
-    if over { 12 << 32 } else { 0 }
+    match transport_receiver::reset_in(ckeys, clengths, counters) {
+        Ok(()) => 0,
+        Err(_) => 12 << 32,
+    }
 }

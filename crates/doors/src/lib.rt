@@ -13,6 +13,10 @@ ghost use Rattle.utf8.specs.Utf8.{Text};
 ghost use Rattle.doors.specs.Numbered.{numbered};
 ghost use Rattle.doors.specs.Addresses.{directed, toward};
 
+use address::{Address, GatewayID, InvalidGatewayID};
+use escaping::{EscapeError, TooLong};
+use link::{EncodeError, Type};
+
 pub mod dispatch;
 pub mod nodes;
 pub mod payloads;
@@ -32,10 +36,9 @@ pub extern "C" fn johkkesir_crc(buffer: &[u8]) -> u16
 pub extern "C" fn johkkesir_unescaped_byte(code: u8) -> u64
     ensures { result ≡ numbered (unescape_handed code) }
 {
-    let r = escaping::unescaped_byte(code);
-    match r {
-        escaping::Unescaped::Byte(b) => b as u64,
-        escaping::Unescaped::Invalid => 14 << 32,
+    match escaping::unescaped_byte(code) {
+        Ok(b) => b as u64,
+        Err(_) => 14 << 32,
     }
 }
 
@@ -45,8 +48,8 @@ pub extern "C" fn johkkesir_escaped_length(input: &[u8]) -> u64
     ensures { result ≡ numbered (length_handed input.now) }
 {
     match escaping::escaped_length(input) {
-        escaping::Measured::Length(n) => n as u64,
-        escaping::Measured::TooLong => 10 << 32,
+        Ok(n) => n as u64,
+        Err(TooLong) => 10 << 32,
     }
 }
 
@@ -57,9 +60,9 @@ pub extern "C" fn johkkesir_escape(input: &[u8], out: &mut [u8]) -> u64
     ensures out_after { out.new ≡ escape_bytes input.now out.old }
 {
     match escaping::escape(input, out) {
-        escaping::Escaped::Written(n) => n as u64,
-        escaping::Escaped::TooLong => 10 << 32,
-        escaping::Escaped::NoRoom => 11 << 32,
+        Ok(n) => n as u64,
+        Err(EscapeError::TooLong) => 10 << 32,
+        Err(EscapeError::NoRoom) => 11 << 32,
     }
 }
 
@@ -68,9 +71,9 @@ pub extern "C" fn johkkesir_escape(input: &[u8], out: &mut [u8]) -> u64
 pub extern "C" fn johkkesir_gateway_id(number: u16) -> u64
     ensures { result ≡ numbered (id_handed number) }
 {
-    match address::GatewayID::new(number) {
-        address::Made::ID(id) => id.0 as u64,
-        address::Made::Invalid => 13 << 32,
+    match GatewayID::try_from(number) {
+        Ok(id) => id.0 as u64,
+        Err(InvalidGatewayID) => 13 << 32,
     }
 }
 
@@ -79,30 +82,30 @@ pub extern "C" fn johkkesir_gateway_id(number: u16) -> u64
 pub extern "C" fn johkkesir_address(number: u16) -> u32
     ensures { result ≡ directed (address_of number) }
 {
-    match address::Address::from_u16(number) {
-        address::Address::From(id) => 0x1_0000 + (id.0 as u32),
-        address::Address::To(id) => id.0 as u32,
+    match Address::from(number) {
+        Address::From(id) => 0x1_0000 + (id.0 as u32),
+        Address::To(id) => id.0 as u32,
     }
 }
 
 // The 16 bits of an address, or 13.
-fn number_of(a: address::Address) -> u64
+fn number_of(a: Address) -> u64
     ensures { result ≡ numbered (number_handed a) }
 {
-    match a.to_u16() {
-        address::Numbered::Number(n) => n as u64,
-        address::Numbered::Invalid => 13 << 32,
+    match u16::try_from(a) {
+        Ok(n) => n as u64,
+        Err(_) => 13 << 32,
     }
 }
 
 // The address From or To a gateway.
-fn address_toward(from: bool, id: u16) -> address::Address
+fn address_toward(from: bool, id: u16) -> Address
     ensures { result ≡ toward from id }
 {
     if from {
-        return address::Address::From(address::GatewayID(id));
+        return Address::From(GatewayID(id));
     }
-    address::Address::To(address::GatewayID(id))
+    Address::To(GatewayID(id))
 }
 
 // The 16 bits of the address From or To a gateway, or 13.
@@ -125,16 +128,11 @@ pub extern "C" fn johkkesir_encode(
     ensures value { result ≡ numbered (encode_handed crc_of (toward from id) frame_type payload.now (length out.old)) }
     ensures out_after { out.new ≡ encode_bytes crc_of (toward from id) frame_type payload.now out.old }
 {
-    match link::encode(
-        address_toward(from, id),
-        link::Type(frame_type),
-        payload,
-        out,
-    ) {
-        link::Encoded::Written(n) => n as u64,
-        link::Encoded::InvalidID => 13 << 32,
-        link::Encoded::TooLong => 10 << 32,
-        link::Encoded::NoRoom => 11 << 32,
+    match link::encode(address_toward(from, id), Type(frame_type), payload, out) {
+        Ok(n) => n as u64,
+        Err(EncodeError::InvalidGatewayID) => 13 << 32,
+        Err(EncodeError::TooLong) => 10 << 32,
+        Err(EncodeError::NoRoom) => 11 << 32,
     }
 }
 

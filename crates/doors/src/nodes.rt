@@ -2,20 +2,28 @@
 ghost use Rattle.std.specs.Prelude.{◌≡◌, ◌+◌, ◌%◌};
 ghost use Rattle.network.specs.Nodes.{node_of, address_of, header_of};
 ghost use Rattle.layouts.specs.Layouts.{named_of, identify_response_in, enumeration_start_request_in};
-ghost use Rattle.doors.specs.Nodes.{named_number, node_number, successor_number, after_number, header_list, header_answer, header_fields};
+ghost use Rattle.doors.specs.Nodes.{named_number, node_number, after_number, header_list, header_answer, header_fields};
 
-use layouts::{EnumerationStartRequest, IdentifyResponse, Named};
-use network::{DSN, HeaderRead, Node, NodeAddress, NodeID, ReceivedPacketHeader, Successor};
+use address::GatewayID;
+use layouts::{EnumerationStartRequest, IdentifyResponse, NamesFrom};
+use network::{DSN, NodeAddress, NodeID, PacketTooShort, ReceivedPacketHeader};
+
+// A node's number; 2^16 for none.
+fn node_number(node: Option<NodeID>) -> u32
+    ensures { result ≡ node_number node }
+{
+    match node {
+        Some(id) => id.get() as u32,
+        None => 0x1_0000,
+    }
+}
 
 // The node that an address names; 2^16 for none.
 #[unsafe(no_mangle)]
 pub extern "C" fn johkkesir_node(address: u16) -> u32
     ensures { result ≡ node_number (node_of address) }
 {
-    match NodeAddress(address).node() {
-        Node::ID(id) => id.get() as u32,
-        Node::Zero => 0x1_0000,
-    }
+    node_number(Option::<NodeID>::from(NodeAddress(address)))
 }
 
 // The address of the node of a number, or of none.
@@ -23,18 +31,7 @@ pub extern "C" fn johkkesir_node(address: u16) -> u32
 pub extern "C" fn johkkesir_node_address(number: u16) -> u16
     ensures { result ≡ address_of (node_of number) }
 {
-    let node = NodeID::try_from(number);
-    NodeAddress::from_node(node).0
-}
-
-// The number of the ID after another, or 2^16 for none.
-fn successor_of(id: NodeID) -> u32
-    ensures { result ≡ successor_number id.0 }
-{
-    match id.successor() {
-        Successor::Next(next) => next.get() as u32,
-        Successor::Last => 0x1_0000,
-    }
+    NodeAddress::from(NodeID::new(number)).0
 }
 
 // The number of the ID after that of a number; 2^16 for the last, and where the number is no ID.
@@ -42,10 +39,7 @@ fn successor_of(id: NodeID) -> u32
 pub extern "C" fn johkkesir_successor(number: u16) -> u32
     ensures { result ≡ after_number (node_of number) }
 {
-    match NodeID::try_from(number) {
-        Node::ID(id) => successor_of(id),
-        Node::Zero => 0x1_0000,
-    }
+    node_number(NodeID::new(number).and_then(|id| id.successor()))
 }
 
 // The data sequence number so many further on.
@@ -53,7 +47,7 @@ pub extern "C" fn johkkesir_successor(number: u16) -> u32
 pub extern "C" fn johkkesir_dsn_add(dsn: u8, n: u8) -> u8
     ensures { result ≡ (dsn + n) % 256 }
 {
-    DSN(dsn).add(n).0
+    (DSN(dsn) + n).0
 }
 
 // A header's fields in the order of their bytes.
@@ -80,12 +74,12 @@ pub extern "C" fn johkkesir_header(packet: &[u8], fields: &mut [u64; 5]) -> u64
     ensures fields_after { fields.new ≡ header_fields (header_of packet.now) }
 {
     match ReceivedPacketHeader::read(packet) {
-        HeaderRead::Header(h) => {
+        Ok(h) => {
             let f = fields_of(h);
             *fields = f;
             0
         }
-        HeaderRead::HeaderTooShort => {
+        Err(PacketTooShort) => {
             let none = [0, 0, 0, 0, 0];
             *fields = none;
             1
@@ -94,12 +88,12 @@ pub extern "C" fn johkkesir_header(packet: &[u8], fields: &mut [u64; 5]) -> u64
 }
 
 // The gateway that is named; 2^16 where the address is From one.
-fn named_number(n: Named) -> u32
+fn named_number(n: Result<GatewayID, NamesFrom>) -> u32
     ensures { result ≡ named_number n }
 {
     match n {
-        Named::Gateway(id) => id.0 as u32,
-        Named::FromAddress => 0x1_0000,
+        Ok(id) => id.0 as u32,
+        Err(NamesFrom) => 0x1_0000,
     }
 }
 
@@ -108,9 +102,7 @@ fn named_number(n: Named) -> u32
 pub extern "C" fn johkkesir_identified(payload: &[u8]) -> u32
     ensures { result ≡ named_number (named_of (identify_response_in payload.now).gateway_address) }
 {
-    let read = IdentifyResponse::read(payload);
-    let response = read.response;
-    named_number(response.gateway_id())
+    named_number(IdentifyResponse::fields(payload).gateway_id())
 }
 
 // The gateway that an enumeration start request names.
@@ -118,7 +110,5 @@ pub extern "C" fn johkkesir_identified(payload: &[u8]) -> u32
 pub extern "C" fn johkkesir_enumerated(payload: &[u8]) -> u32
     ensures { result ≡ named_number (named_of (enumeration_start_request_in payload.now).enumeration_address) }
 {
-    let read = EnumerationStartRequest::read(payload);
-    let request = read.request;
-    named_number(request.enumeration_gateway_id())
+    named_number(EnumerationStartRequest::fields(payload).enumeration_gateway_id())
 }

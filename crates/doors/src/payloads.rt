@@ -5,6 +5,8 @@ ghost use Rattle.transport.specs.Status.{accepted_of, needed_of};
 ghost use Rattle.transport.specs.Number.{interpret_of};
 ghost use Rattle.doors.specs.Packets.{found_number, bounds_of, counts_of};
 
+use network::PacketTooShort;
+
 // What stands in a packet area at a place: 0 nothing, 1 too few bytes for a packet, 2 a packet, whose data's start and end are left in
 // `found`; otherwise 0 and 0 are.
 #[unsafe(no_mangle)]
@@ -13,18 +15,18 @@ pub extern "C" fn johkkesir_packet_at(area: &[u8], at: usize, found: &mut [u64; 
     ensures found_after { found.new ≡ bounds_of (found_at area.now at) }
 {
     match network::packet_at(area, at) {
-        network::Found::Finished => {
+        None => {
             let none = [0, 0];
             *found = none;
             0
         }
-        network::Found::TooShort => {
+        Some(Err(PacketTooShort)) => {
             let none = [0, 0];
             *found = none;
             1
         }
-        network::Found::Packet { data_at, end } => {
-            let bounds = [data_at as u64, end as u64];
+        Some(Ok(packet)) => {
+            let bounds = [packet.data_at as u64, packet.end as u64];
             *found = bounds;
             2
         }
@@ -37,7 +39,7 @@ pub extern "C" fn johkkesir_packets(area: &[u8], out: &mut [u64; 2])
     ensures { out.new ≡ counts_of (tally_of area.now) }
 {
     let t = network::counts(area);
-    let counts = [t.packets, t.short];
+    let counts = [t.packets, u64::from(t.short)];
     *out = counts;
 }
 

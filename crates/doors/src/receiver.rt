@@ -6,20 +6,16 @@ ghost use Rattle.link_feed.specs.Lent.{numbers_left, numbers_fed};
 ghost use Rattle.doors.specs.Receivers.{told, taken_by, found_of, pushed_at, fed_at, reset_at, heard_of};
 
 use link_receive::numbered::{numbers_of, receiver_at};
-use link_receive::{Answer, Receiver};
+use link_receive::{Answer, OverLimit, Receiver};
 
 // An answer as one number: 0 for nothing, 1 for a frame, or 12.
 fn told_by(a: Answer) -> u64
     ensures { result ≡ told a }
 {
     match a {
-        Answer::Nothing => 0,
-        Answer::Frame {
-            address: _,
-            frame_type: _,
-            len: _,
-        } => 1,
-        Answer::Refused => 12 << 32,
+        Ok(None) => 0,
+        Ok(Some(_)) => 1,
+        Err(OverLimit) => 12 << 32,
     }
 }
 
@@ -28,18 +24,14 @@ fn found_by(a: Answer) -> [u64; 4]
     ensures { result ≡ found_of a }
 {
     match a {
-        Answer::Nothing => [0, 0, 0, 0],
-        Answer::Frame {
-            address,
-            frame_type,
-            len,
-        } => [
+        Ok(None) => [0, 0, 0, 0],
+        Ok(Some(head)) => [
             1,
-            crate::number_of(address),
-            frame_type.0 as u64,
-            len as u64,
+            crate::number_of(head.address),
+            head.frame_type.0 as u64,
+            head.len as u64,
         ],
-        Answer::Refused => [12 << 32, 0, 0, 0],
+        Err(OverLimit) => [12 << 32, 0, 0, 0],
     }
 }
 
@@ -56,24 +48,15 @@ pub extern "C" fn johkkesir_push_u8(
     ensures body_after { body.new ≡ (pushed_at numbers.old body.old b).next.body }
     ensures found_after { found.new ≡ found_of (pushed_at numbers.old body.old b).answer }
 {
-    let was = *numbers;
-    if 256 < was[1] {
-        let news = found_by(Answer::Refused);
-        *found = news;
-        return 0;
-    }
-    let held = *body;
-    let r = receiver_at(was, held);
+    let r = receiver_at(*numbers, *body);
     let f = r.push_u8(b);
-    let next = f.next;
-    let answer = f.answer;
-    let units = next.body;
-    let put = numbers_of(next);
-    let after = put.numbers;
-    let news = found_by(answer);
+    *found = found_by(f.answer);
+    let Ok(after) = numbers_of(f.next) else {
+        return 0;
+    };
+    let units = f.next.body;
     *numbers = after;
     *body = units;
-    *found = news;
     1
 }
 
@@ -91,9 +74,7 @@ pub extern "C" fn johkkesir_feed(
     ensures found_after { found.new ≡ found_of (fed_at numbers.old body.old s.now).answer }
 {
     let f = link_feed::lending::feed_in(numbers, body, s);
-    let answer = f.answer;
-    let news = found_by(answer);
-    *found = news;
+    *found = found_by(f.answer);
     f.taken as u64
 }
 
@@ -107,21 +88,13 @@ pub extern "C" fn johkkesir_reset_counters(
     ensures numbers_after { numbers.new ≡ numbers_left numbers.old (reset_at numbers.old body.old).next }
     ensures body_after { body.new ≡ (reset_at numbers.old body.old).next.body }
 {
-    let was = *numbers;
-    if 256 < was[1] {
-        return 12 << 32;
-    }
-    let held = *body;
-    let r = receiver_at(was, held);
+    let r = receiver_at(*numbers, *body);
     let f = r.reset_counters();
-    let next = f.next;
-    let answer = f.answer;
-    let units = next.body;
-    let put = numbers_of(next);
-    let after = put.numbers;
+    let Ok(after) = numbers_of(f.next) else {
+        return told_by(f.answer);
+    };
     *numbers = after;
-    *body = units;
-    told_by(answer)
+    told_by(f.answer)
 }
 
 // The ten numbers of a fresh receiver after a whole slice.
@@ -131,8 +104,7 @@ pub extern "C" fn johkkesir_ledger(s: &[u8], numbers: &mut [u64; Receiver::NUMBE
 {
     let r = Receiver::new();
     let f = link_feed::extend_from_slice(r, s);
-    let next = f.next;
-    let put = numbers_of(next);
-    let after = put.numbers;
-    *numbers = after;
+    if let Ok(after) = numbers_of(f.next) {
+        *numbers = after;
+    }
 }

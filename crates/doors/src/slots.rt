@@ -4,8 +4,8 @@ ghost use Rattle.slot_counter.specs.Slots.{slots_since_of, slot_number_of, numbe
 ghost use Rattle.transport.specs.Response.{receive_read_of};
 ghost use Rattle.doors.specs.Slots.{numbered_slot, counted_slot, since_number, byte_or, pair_or, read_fields, read_answer, read_news};
 
-use slot_counter::{Numbered, Since, SlotCounter, SlotEpoch, SlotNumber};
-use transport::{OptionalByte, OptionalPair, PacketNumber, ReceiveRead, ReceiveResponse};
+use slot_counter::{SlotCounter, SlotEpoch, SlotNumber};
+use transport::{PacketNumber, ReceiveResponse, ReceiveResponseError};
 
 // The slot number in a counter; a value that is none comes with 2^16 more.
 #[unsafe(no_mangle)]
@@ -13,8 +13,8 @@ pub extern "C" fn johkkesir_slot_number(counter: u16) -> u32
     ensures { result ≡ numbered_slot (slot_number_of (number_in counter)) }
 {
     match SlotCounter(counter).slot_number() {
-        Numbered::Number(n) => n.get() as u32,
-        Numbered::Invalid(n) => 0x1_0000 + (n.0 as u32),
+        Ok(n) => n.get() as u32,
+        Err(n) => 0x1_0000 + (n.0 as u32),
     }
 }
 
@@ -32,28 +32,28 @@ pub extern "C" fn johkkesir_slots_since(counter: u16, past: u16) -> u32
     ensures { result ≡ since_number (slots_since_of counter past) }
 {
     match SlotCounter(counter).slots_since(SlotCounter(past)) {
-        Since::Slots(n) => n as u32,
-        Since::Bad(n) => 0x1_0000 + (n.0 as u32),
+        Ok(n) => n as u32,
+        Err(n) => 0x1_0000 + (n.0 as u32),
     }
 }
 
 // A field's byte; 2^16 where it is missing.
-fn byte_or(b: OptionalByte) -> u64
+fn byte_or(b: Option<u8>) -> u64
     ensures { result ≡ byte_or b }
 {
     match b {
-        OptionalByte::One(x) => x as u64,
-        OptionalByte::NoByte => 0x1_0000,
+        Some(x) => x as u64,
+        None => 0x1_0000,
     }
 }
 
 // A field's two bytes, the first higher; 2^16 where they are missing.
-fn pair_or(p: OptionalPair) -> u64
+fn pair_or(p: Option<[u8; 2]>) -> u64
     ensures { result ≡ pair_or p }
 {
     match p {
-        OptionalPair::Two(x, y) => (x as u64) * 256 + (y as u64),
-        OptionalPair::NoPair => 0x1_0000,
+        Some(bytes) => u16::from_be_bytes(bytes) as u64,
+        None => 0x1_0000,
     }
 }
 
@@ -86,33 +86,21 @@ pub extern "C" fn johkkesir_receive_response(payload: &[u8], old: u16, fields: &
     ensures fields_after { fields.new ≡ read_news (receive_read_of payload.now old) }
 {
     match ReceiveResponse::read(payload, PacketNumber(old)) {
-        ReceiveRead::Response(r, area) => {
+        Ok((r, area)) => {
             let f = fields_of(r, area as u64);
             *fields = f;
             0
         }
-        ReceiveRead::TooShort(n) => {
+        Err(ReceiveResponseError::TooShort(n)) => {
             let f = [n as u64, 0, 0, 0, 0, 0, 0];
             *fields = f;
             23 << 32
         }
-        ReceiveRead::UnknownStatusType(status) => {
+        Err(ReceiveResponseError::UnknownStatusType(status)) => {
             let f = [status as u64, 0, 0, 0, 0, 0, 0];
             *fields = f;
             22 << 32
         }
-    }
-}
-
-// The epoch of an index; any index past 3 is the last epoch's.
-fn epoch_named(index: u8) -> SlotEpoch
-    ensures { result ≡ epoch_at index }
-{
-    match index {
-        0 => SlotEpoch::Epoch0,
-        1 => SlotEpoch::Epoch4,
-        2 => SlotEpoch::Epoch8,
-        _ => SlotEpoch::EpochC,
     }
 }
 
@@ -121,7 +109,7 @@ fn epoch_named(index: u8) -> SlotEpoch
 pub extern "C" fn johkkesir_epoch_add(index: u8, n: u8) -> u8
     ensures { result ≡ index_of (added_of (epoch_at index) n) }
 {
-    epoch_named(index).add(n).index()
+    (SlotEpoch::at(index) + n).index()
 }
 
 // The counter of an epoch and a slot number; a value that is none comes with 2^16 more.
@@ -130,10 +118,7 @@ pub extern "C" fn johkkesir_slot_counter(index: u8, number: u16) -> u32
     ensures { result ≡ counted_slot (epoch_at index) (slot_number_of number) }
 {
     match SlotNumber::try_from(number) {
-        Numbered::Number(n) => {
-            let made = SlotCounter::new(epoch_named(index), n);
-            made.0 as u32
-        }
-        Numbered::Invalid(n) => 0x1_0000 + (n.0 as u32),
+        Ok(n) => SlotCounter::new(SlotEpoch::at(index), n).0 as u32,
+        Err(n) => 0x1_0000 + (n.0 as u32),
     }
 }

@@ -9,38 +9,31 @@ use lib.Dec.{ltb}
 use borrow.Author.Tests.{lt-ltb, le-ltb, ltb-true, ltb-false}
 use mathlib.Core.Bool.{Bool, true, false, cond}
 use Rattle.laws.specs.Bytes.{laid_over}
+use Rattle.std.specs.Prelude.{Result}
 use Rattle.laws.specs.Handed.{refused, value}
+use Rattle.laws.specs.Numbers.{too_long, no_unit}
+use Rattle.laws.proofs.Numbers.{handed_by-same}
 use Rattle.escaping.specs.Escapes.{escaped}
-use Rattle.escaping.specs.Handed.{handed_byte, handed_length, handed_written, input_limit, escape_handed, escape_bytes}
-use Rattle.escaping.specs.declared.Unescaped.{Unescaped}
-use Rattle.escaping.specs.declared.Unescaped.TheVariants.{Byte, Invalid}
-use Rattle.escaping.specs.declared.Measured.{Measured}
-use Rattle.escaping.specs.declared.Measured.TheVariants.{Length, TooLong as TooLongToMeasure}
-use Rattle.escaping.specs.declared.Escaped.{Escaped}
-use Rattle.escaping.specs.declared.Escaped.TheVariants.{Written, TooLong, NoRoom}
+use Rattle.escaping.specs.Handed.{refusal_of, handed_byte, handed_length, handed_written, input_limit, escape_handed, escape_bytes}
+use Rattle.escaping.specs.declared.InvalidEscapeSequence.{InvalidEscapeSequence}
+use Rattle.escaping.specs.declared.TooLong.{TooLong}
+use Rattle.escaping.specs.declared.EscapeError.{EscapeError}
+use Rattle.escaping.specs.declared.EscapeError.TheVariants.{TooLong as TooLongToEscape, NoRoom}
 
-pub handed_byte-same : (a b : Unescaped) → handed_byte a ≡ handed_byte b → a ≡ b
-handed_byte-same (Byte m) (Byte n) e = cc
-handed_byte-same (Byte m) Invalid e = cc
-handed_byte-same Invalid (Byte n) e = cc
-handed_byte-same Invalid Invalid e = refl
+pub handed_byte-same : (a b : Result ℕ InvalidEscapeSequence) → handed_byte a ≡ handed_byte b → a ≡ b
+handed_byte-same = handed_by-same (λ _. no_unit) (λ d e p. refl)
 
-pub handed_length-same : (a b : Measured) → handed_length a ≡ handed_length b → a ≡ b
-handed_length-same (Length m) (Length n) e = cc
-handed_length-same (Length m) TooLongToMeasure e = cc
-handed_length-same TooLongToMeasure (Length n) e = cc
-handed_length-same TooLongToMeasure TooLongToMeasure e = refl
+pub handed_length-same : (a b : Result ℕ TooLong) → handed_length a ≡ handed_length b → a ≡ b
+handed_length-same = handed_by-same (λ _. too_long) (λ d e p. refl)
 
-pub handed_written-same : (a b : Escaped) → handed_written a ≡ handed_written b → a ≡ b
-handed_written-same (Written m) (Written n) e = cc
-handed_written-same (Written m) TooLong e = cc
-handed_written-same (Written m) NoRoom e = cc
-handed_written-same TooLong (Written n) e = cc
-handed_written-same TooLong TooLong e = refl
-handed_written-same TooLong NoRoom e = cc
-handed_written-same NoRoom (Written n) e = cc
-handed_written-same NoRoom TooLong e = cc
-handed_written-same NoRoom NoRoom e = refl
+apart : (d e : EscapeError) → refusal_of d ≡ refusal_of e → d ≡ e
+apart TooLongToEscape TooLongToEscape p = refl
+apart TooLongToEscape NoRoom p = cc
+apart NoRoom TooLongToEscape p = cc
+apart NoRoom NoRoom p = refl
+
+pub handed_written-same : (a b : Result ℕ EscapeError) → handed_written a ≡ handed_written b → a ≡ b
+handed_written-same = handed_by-same refusal_of apart
 
 -- an input within the limit, and room for its escaped form: `encode` cites these
 module _ (input : List ℕ) (within : length input ≤ input_limit) where

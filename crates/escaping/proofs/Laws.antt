@@ -9,10 +9,11 @@ use Prim.Native.Nat.{ℕ, suc, ◌≤◌, ◌<◌}
 use native.Mathlib.Nat.{le_of_suc-le-suc, not-suc-le-zero}
 use native.Mathlib.Omega.{arith}
 use lib.Dec.{ltb, eqb}
+use Rattle.std.specs.Prelude.{Some, None}
 use lib.ListN.{length, get_or}
 use borrow.Author.Tests.{le-ltb, lt-ltb, ltb-true, ltb-false, eqb-true, eqb-false, ne_eqb}
 use Rattle.laws.specs.Handed.{refused}
-use Rattle.escaping.specs.Escapes.{escapes, index_in, code_of, unescaped_of, escaped_byte, escaped, unescaped, Paired, none, raw, pair, datum, opener, closer, neither, meaning}
+use Rattle.escaping.specs.Escapes.{escapes, index_in, code_of, code_if, unescaped_of, escaped_byte, escaped, unescaped, Paired, none, raw, pair, datum, opener, closer, neither, meaning}
 use Rattle.escaping.specs.Handed.{unescape_meant, unescape_handed}
 
 -- 00 to 06 are data after 7e
@@ -61,6 +62,21 @@ code_of-lt b = index_in-lt escapes b
 pub unescaped_of-code_of : (b : ℕ) → code_of b < 7 → unescaped_of (code_of b) ≡ b
 unfolding code_of
 unescaped_of-code_of b h = get_or-index_in escapes b h
+
+-- what a code that is found says of its byte, and what none says
+pub code_if-some : (b c : ℕ) → code_if b ≡ Some c → (code_of b < 7) × (code_of b ≡ c)
+code_if-some b c e = go (ltb (code_of b) 7) refl e
+  where
+    go : (t : Bool) → ltb (code_of b) 7 ≡ t → cond t (Some (code_of b)) None ≡ Some c → (code_of b < 7) × (code_of b ≡ c)
+    go true p q = (ltb-true (code_of b) 7 p, cc)
+    go false p q = cc
+
+pub code_if-none : (b : ℕ) → code_if b ≡ None → 7 ≤ code_of b
+code_if-none b e = go (ltb (code_of b) 7) refl e
+  where
+    go : (t : Bool) → ltb (code_of b) 7 ≡ t → cond t (Some (code_of b)) None ≡ None → 7 ≤ code_of b
+    go true p q = cc
+    go false p q = ltb-false (code_of b) 7 p
 
 -- none of the seven
 pub code_of-other : (b : ℕ) → (b ≡ 0x7e → ⊥) → (b ≡ 0x24 → ⊥) → (b ≡ 0x23 → ⊥) → (b ≡ 0x25 → ⊥) → (b ≡ 0xa4 → ⊥) → (b ≡ 0xa3 → ⊥) → (b ≡ 0xa5 → ⊥) → code_of b ≡ 7

@@ -6,9 +6,11 @@ use Prim.Native.Nat.{ℕ, suc, ◌+◌, ◌*◌, ◌≤◌, ◌<◌}
 use native.Mathlib.Numerals.{add-one}
 use native.Mathlib.Omega.{arith}
 use lib.Dec.{ltb}
+use Rattle.std.specs.Prelude.{count_by, is_some, Some, None}
+use Rattle.std.proofs.lemmas.List.Recursion.{is_count_by}
 use lib.ListN.{length, get_or, take, drop, length-append, take-append-drop}
 use lib.Seq.{take-suc, take_all}
-use Rattle.escaping.specs.Escapes.{code_of, escaped_byte, escaped, sevens}
+use Rattle.escaping.specs.Escapes.{code_of, code_if, escaped_byte, escaped, sevens}
 use Rattle.escaping.proofs.Laws.{escaped_byte-raw, escaped_byte-pair}
 
 pub escaped-append : (xs ys : List ℕ) → escaped (xs ++ ys) ≡ escaped xs ++ escaped ys
@@ -33,6 +35,18 @@ pub length-escaped : (xs : List ℕ) → length (escaped xs) ≡ length xs + sev
 unfolding escaped sevens
 length-escaped [] = refl
 length-escaped (x ∷ xs) = rw (length-append, length-escaped_byte, length-escaped xs) (omega arith)
+
+-- .. which is what a count of them finds
+sevens-count : (xs : List ℕ) → sevens xs ≡ count_by (λ b. is_some (code_if b)) xs
+unfolding sevens
+sevens-count = is_count_by sevens (λ b. is_some (code_if b)) refl (λ x xs. go (ltb (code_of x) 7) (code_of x) (sevens xs))
+  where
+    go : (t : Bool) (c n : ℕ) → cond t 1 0 + n ≡ cond (is_some (cond t (Some c) None)) (1 + n) n
+    go true c n = refl
+    go false c n = omega arith
+
+pub length-escaped-count : (xs : List ℕ) → length (escaped xs) ≡ length xs + count_by (λ b. is_some (code_if b)) xs
+length-escaped-count xs = rw (length-escaped xs, sevens-count xs)
 
 sevens-le : (xs : List ℕ) → sevens xs ≤ length xs
 unfolding sevens

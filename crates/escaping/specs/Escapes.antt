@@ -1,5 +1,5 @@
 -- The escapes of the wire, and what the byte after 7e means. The receiver and the grammar cite both. Assumes nothing.
-use Rattle.std.specs.Prelude.{◌≡◌, ℕ, suc, ◌+◌, ◌<◌, cond, List, [], ◌∷◌, ◌++◌, get_or, eqb, ltb}
+use Rattle.std.specs.Prelude.{◌≡◌, ℕ, suc, ◌+◌, ◌<◌, cond, List, [], ◌∷◌, ◌++◌, get_or, eqb, ltb, Option, Some, None}
 
 -- 01, "On the wire": escapes, each after 7e: 7e as 00, 24 as 01, 23 as 02, 25 as 03, a4 as 04, a3 as 05, a5 as 06
 abbrev pub escapes : List ℕ
@@ -17,6 +17,10 @@ index_in (x ∷ xs) b = cond (eqb x b) 0 (suc (index_in xs b))
 -- the code of a byte that is escaped; 7 for any other
 unfoldable pub code_of : ℕ → ℕ
 code_of b = index_in escapes b
+
+-- the same where there is one
+abbrev pub code_if : ℕ → Option ℕ
+code_if b = cond (ltb (code_of b) 7) (Some (code_of b)) None
 
 -- a byte on the wire: 7e and its code, or itself
 unfoldable pub escaped_byte : ℕ → List ℕ

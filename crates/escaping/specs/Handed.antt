@@ -1,31 +1,29 @@
 -- What the functions of this crate hand back, in 01's numbers and values, and what `escape` writes. Assumes nothing.
-use Rattle.std.specs.Prelude.{ℕ, List, [], ◌∷◌, length, ltb}
+use Rattle.std.specs.Prelude.{ℕ, List, [], ◌∷◌, length, ltb, Result}
 use Rattle.laws.specs.Bytes.{laid_if}
 use Rattle.laws.specs.Handed.{Handed, value}
-use Rattle.laws.specs.Numbers.{refused_as, row, judged, too_long, no_room, no_unit}
+use Rattle.laws.specs.Numbers.{Refusal, refused_as, handed_by, row, judged, too_long, no_room, no_unit}
 use Rattle.escaping.specs.Escapes.{Meaning, datum, opener, closer, neither, meaning, unescaped_of, escaped}
-use Rattle.escaping.specs.declared.Unescaped.{Unescaped}
-use Rattle.escaping.specs.declared.Unescaped.TheVariants.{Byte, Invalid}
-use Rattle.escaping.specs.declared.Measured.{Measured}
-use Rattle.escaping.specs.declared.Measured.TheVariants.{Length, TooLong as TooLongToMeasure}
-use Rattle.escaping.specs.declared.Escaped.{Escaped}
-use Rattle.escaping.specs.declared.Escaped.TheVariants.{Written, TooLong, NoRoom}
+use Rattle.escaping.specs.declared.InvalidEscapeSequence.{InvalidEscapeSequence}
+use Rattle.escaping.specs.declared.TooLong.{TooLong}
+use Rattle.escaping.specs.declared.EscapeError.{EscapeError}
+use Rattle.escaping.specs.declared.EscapeError.TheVariants.{TooLong as TooLongToEscape, NoRoom}
 
 -- 01, "Numbers handed back", 14: unescape: byte above 06; else the byte that is meant
-abbrev pub handed_byte : Unescaped → Handed ℕ
-handed_byte (Byte b) = value b
-handed_byte Invalid = refused_as no_unit
+abbrev pub handed_byte : Result ℕ InvalidEscapeSequence → Handed ℕ
+handed_byte = handed_by (λ _. no_unit)
 
 -- 01, "Numbers handed back", 10: escape and its length: input over 65,536; else the length
-abbrev pub handed_length : Measured → Handed ℕ
-handed_length (Length n) = value n
-handed_length TooLongToMeasure = refused_as too_long
+abbrev pub handed_length : Result ℕ TooLong → Handed ℕ
+handed_length = handed_by (λ _. too_long)
 
 -- 01, "Numbers handed back", 10: escape: input over 65,536; 11: escape: room below the exact length; else how many bytes were written
-abbrev pub handed_written : Escaped → Handed ℕ
-handed_written (Written n) = value n
-handed_written TooLong = refused_as too_long
-handed_written NoRoom = refused_as no_room
+abbrev pub refusal_of : EscapeError → Refusal
+refusal_of TooLongToEscape = too_long
+refusal_of NoRoom = no_room
+
+abbrev pub handed_written : Result ℕ EscapeError → Handed ℕ
+handed_written = handed_by refusal_of
 
 -- 01, "Numbers handed back", 14: unescape: byte above 06, which is no data after 7e; this by what the byte means ..
 abbrev pub unescape_meant : Meaning → ℕ → Handed ℕ

@@ -20,41 +20,39 @@ use Rattle.network.specs.declared.PacketType.{PacketType}
 use Rattle.transport_receiver.specs.State.{State, Frame, payload_at, state_of}
 use Rattle.transport_receiver.specs.Step.{Event, command, Outcome, silent, event, step_of, is_over_limit, event_of}
 use Rattle.transport_receiver.specs.Step as step
-use Rattle.transport_receiver.specs.Lent.{request_payload, handled_in, step_in}
+use Rattle.transport_receiver.specs.Lent.{Stepped, request_payload, handled_in, step_in}
 use Rattle.transport_receiver.specs.Handed.{outcome_of}
 use Rattle.transport_receiver.specs.declared.Receiver.{Receiver}
-use Rattle.transport_receiver.specs.declared.Stepped.{Stepped}
-use Rattle.answers.specs.declared.Answer.TheVariants.{WrongDirection, WrongLength, NoRequest}
-use Rattle.answers.specs.declared.said.Said.{Said}
-use Rattle.answers.specs.declared.said.Said.TheVariants as said
-use Rattle.answers.specs.Said.{said_of}
+use Rattle.std.specs.Prelude.{Ok, Err}
+use Rattle.answers.specs.Refusals.{Answer}
+use Rattle.answers.specs.declared.Accepted.TheVariants as accepted
+use Rattle.answers.specs.declared.Refusal.TheVariants.{WrongDirection, WrongLength, NoRequest}
 use Rattle.transport_receiver.proofs.Pool.{is_over_limit-places}
 use Rattle.laws.proofs.Cases.{by}
 use Rattle.transport_receiver.proofs.Refines.{Sized, refines}
 use Rattle.event_log.specs.Records.{Entry, entry_bytes, records_of, records_in, bytes_of, records_handed, answer_handed, answer_bytes}
-use Rattle.event_log.specs.Answers.{event_said, event_in}
+use Rattle.event_log.specs.Answers.{event_in}
 use Rattle.event_log.proofs.Log.{Holds, each-sound, log-holds}
 use Rattle.event_log.proofs.Came.{passed-step, came}
 use Rattle.event_log.proofs.Writes.{answer-13, answer-records}
 use Rattle.event_log.proofs.Every.{Fine, held_small, arrays-small, every-sound, every-small}
 
 -- an executed command points at a place that there is
-abbrev Placed : Said → Type 0
-Placed s = (p : ℕ) (q : PacketType) (n : ℕ) (u : PacketType) → s ≡ said.Command p q n u → (p < 64) × (n ≤ kept_limit)
+abbrev Placed : Answer → Type 0
+Placed a = (p : ℕ) (q : PacketType) (n : ℕ) (u : PacketType) → a ≡ Ok (accepted.CommandExecuted p q n u) → (p < 64) × (n ≤ kept_limit)
 
-said-placed : (pool p : List ℕ) (g : ℕ) (s : Said) → Placed s → event_said pool g p s ≡ event_of (outcome_of (payload_at pool) g p s)
+said-placed : (pool p : List ℕ) (g : ℕ) (a : Answer) → Placed a → event_in pool g p a ≡ event_of (outcome_of (payload_at pool) g p a)
 unfolding request_payload
-said-placed pool p g (said.Refused n) h = refl
-said-placed pool p g (said.RefusedWith n m) h = refl
-said-placed pool p g said.Counted h = refl
-said-placed pool p g said.Kept h = refl
-said-placed pool p g (said.Started gateway) h = refl
-said-placed pool p g said.Identity h = refl
-said-placed pool p g said.Version h = refl
-said-placed pool p g said.Ended h = refl
-said-placed pool p g said.Captured h = refl
-said-placed pool p g (said.Slot number slot repeat area) h = refl
-said-placed pool p g (said.Command i q n u) h = let j = h i q n u refl in rw (lt-ltb i 64 j.0, le-ltb kept_limit n j.1)
+said-placed pool p g (Err r) h = refl
+said-placed pool p g (Ok accepted.Counted) h = refl
+said-placed pool p g (Ok accepted.CommandKept) h = refl
+said-placed pool p g (Ok (accepted.EnumerationStarted gateway)) h = refl
+said-placed pool p g (Ok accepted.IdentityObserved) h = refl
+said-placed pool p g (Ok accepted.VersionObserved) h = refl
+said-placed pool p g (Ok accepted.EnumerationEnded) h = refl
+said-placed pool p g (Ok accepted.SlotCounterCaptured) h = refl
+said-placed pool p g (Ok (accepted.SlotCounterObserved number slot repeat area)) h = refl
+said-placed pool p g (Ok (accepted.CommandExecuted i q n u)) h = let j = h i q n u refl in rw (lt-ltb i 64 j.0, le-ltb kept_limit n j.1)
 
 -- only a command response gives a command
 from-response : (s : State) (f : Frame) (g t u : ℕ) (q p : List ℕ) → (step_of s f).outcome ≡ event (command g t q u p) → f.frame_type ≡ Types.command_response
@@ -77,25 +75,25 @@ unfolding state_of
 none-over-12 r o = sym (is_over_limit-places r.commands.keys r.commands.types r.commands.lengths r.commands.payloads) ∙ o
 
 module _ (r : Receiver) (z : Sized r) (f : Frame) where
-  placed-response : over_of r.commands.keys r.commands.lengths kept_limit ≡ false → ltb 0x7fff f.gateway ≡ false → ltb 250 (length f.payload) ≡ false → f.frame_type ≡ Types.command_response → Placed (said_of (step_in r f).answer)
+  placed-response : over_of r.commands.keys r.commands.lengths kept_limit ≡ false → ltb 0x7fff f.gateway ≡ false → ltb 250 (length f.payload) ≡ false → f.frame_type ≡ Types.command_response → Placed (step_in r f).answer
   unfolding step_in handled_in command_response_in finished_in
   placed-response o g l k p q n u e =
       let key = command_key f.gateway (get_or f.payload 4 0) in
       let i = first_of r.commands.keys (suc key) in
       by f.from
       (λ t. by (ltb (length f.payload) 5)
-      (λ m. absurd (let y : said_of WrongLength ≡ said.Command p q n u = rw (o, g, l, k, t, m) at e in let x : ◌≡◌ {A = ℕ} 0 1 = cc in omega arith))
+      (λ m. absurd (let y : ◌≡◌ {A = Answer} (Err WrongLength) (Ok (accepted.CommandExecuted p q n u)) = rw (o, g, l, k, t, m) at e in let x : ◌≡◌ {A = ℕ} 0 1 = cc in omega arith))
       (λ m. by (ltb i 64)
-      (λ v. let y : said.Command i (record { 0 = get_or r.commands.types i 0 }) (get_or r.commands.lengths i 0) (record { 0 = get_or f.payload 3 0 }) ≡ said.Command p q n u = rw (o, g, l, k, t, m, v) at e in
+      (λ v. let y : ◌≡◌ {A = Answer} (Ok (accepted.CommandExecuted i (record { 0 = get_or r.commands.types i 0 }) (get_or r.commands.lengths i 0) (record { 0 = get_or f.payload 3 0 }))) (Ok (accepted.CommandExecuted p q n u)) = rw (o, g, l, k, t, m, v) at e in
       let a : i ≡ p = cc in
       let b : get_or r.commands.lengths i 0 ≡ n = cc in
       let c = ltb-true i 64 v in
       let d = held_small r key o (omega (arith, z.ckeys)) in
       (omega arith, omega arith))
-      (λ v. absurd (let y : said_of NoRequest ≡ said.Command p q n u = rw (o, g, l, k, t, m, v) at e in let x : ◌≡◌ {A = ℕ} 0 1 = cc in omega arith))))
-      (λ t. absurd (let y : said_of WrongDirection ≡ said.Command p q n u = rw (o, g, l, k, t) at e in let x : ◌≡◌ {A = ℕ} 0 1 = cc in omega arith))
+      (λ v. absurd (let y : ◌≡◌ {A = Answer} (Err NoRequest) (Ok (accepted.CommandExecuted p q n u)) = rw (o, g, l, k, t, m, v) at e in let x : ◌≡◌ {A = ℕ} 0 1 = cc in omega arith))))
+      (λ t. absurd (let y : ◌≡◌ {A = Answer} (Err WrongDirection) (Ok (accepted.CommandExecuted p q n u)) = rw (o, g, l, k, t) at e in let x : ◌≡◌ {A = ℕ} 0 1 = cc in omega arith))
 
-  placed-step : Placed (said_of (step_in r f).answer)
+  placed-step : Placed (step_in r f).answer
   placed-step p q n u e =
       let t = step_in r f in
       let x = command f.gateway q.0 (payload_at t.receiver.commands.payloads p n) u.0 (drop 5 f.payload) in
@@ -107,7 +105,7 @@ module _ (r : Receiver) (z : Sized r) (f : Frame) where
   module _ (t : Stepped) (same : t ≡ step_in r f) where
     pub answer-event : event_in t.receiver.commands.payloads f.gateway f.payload t.answer ≡ event_of (step_of (state_of r) f).outcome
     answer-event =
-        rw same (said-placed (step_in r f).receiver.commands.payloads f.payload f.gateway (said_of (step_in r f).answer) placed-step ∙ ap (λ (w : step.Result). event_of w.outcome) (refines r z f))
+        rw same (said-placed (step_in r f).receiver.commands.payloads f.payload f.gateway (step_in r f).answer placed-step ∙ ap (λ (w : step.Result). event_of w.outcome) (refines r z f))
 
     abbrev pub records : List Entry
     records = records_in (event_in t.receiver.commands.payloads f.gateway f.payload t.answer)

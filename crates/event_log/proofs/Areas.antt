@@ -8,10 +8,10 @@ use lib.ListN.{length, take, drop, length-append, length-drop}
 use lib.Seq.{length-take-le}
 use lib.Dec.{leb}
 use borrow.Author.Tests.{leb-true, leb-false, le-ltb}
+use Rattle.std.specs.Prelude.{None}
 use Rattle.laws.specs.Bytes.{Bytes}
 use Rattle.laws.proofs.Bytes.{bytes_drop, bytes_take}
-use Rattle.network.specs.declared.Found.TheVariants.{Packet, TooShort, Finished}
-use Rattle.network.specs.Split.{packet_size, packets_of, found_at}
+use Rattle.network.specs.Split.{packet_size, packets_of, found_packet, found_short, found_at}
 use Rattle.network.proofs.Split.{packets_of-packet, packets_of-rest, whole-front}
 use Rattle.network.proofs.Walk.{packets_of-seen, found_at-ahead}
 use Rattle.sound_record.specs.Record.{written, sound_at}
@@ -38,13 +38,13 @@ length-area g a = length-packets g (packets_of a).packets
 
 -- one look after another: `room_after` and `put_packets` cite these
 module _ (a : List ℕ) (at : ℕ) where
-  pub bytes-finished : (g : ℕ) → found_at a at ≡ Finished → area_bytes g (drop at a) ≡ []
+  pub bytes-finished : (g : ℕ) → found_at a at ≡ None → area_bytes g (drop at a) ≡ []
   bytes-finished g f = rw (packets_of-seen a at, f)
 
-  pub bytes-short : (g : ℕ) → found_at a at ≡ TooShort → area_bytes g (drop at a) ≡ []
+  pub bytes-short : (g : ℕ) → found_at a at ≡ found_short → area_bytes g (drop at a) ≡ []
   bytes-short g f = rw (packets_of-seen a at, f)
 
-  module _ (d e : ℕ) (f : found_at a at ≡ Packet d e) where
+  module _ (d e : ℕ) (f : found_at a at ≡ found_packet d e) where
     pub bytes-packet : (g : ℕ) → area_bytes g (drop at a) ≡ record_of written g (packet (take (e - at) (drop at a))) ++ area_bytes g (drop e a)
     bytes-packet g = rw (packets_of-seen a at, f)
 
@@ -54,10 +54,10 @@ module _ (a : List ℕ) (at : ℕ) where
     pub space-packet : area_space (drop at a) ≡ 6 + (e - at) + area_space (drop e a)
     space-packet = rw (packets_of-seen a at, f, length_found, body_start-written)
 
-  pub space-finished : found_at a at ≡ Finished → area_space (drop at a) ≡ 0
+  pub space-finished : found_at a at ≡ None → area_space (drop at a) ≡ 0
   space-finished f = rw (packets_of-seen a at, f)
 
-  pub space-short : found_at a at ≡ TooShort → area_space (drop at a) ≡ 0
+  pub space-short : found_at a at ≡ found_short → area_space (drop at a) ≡ 0
   space-short f = rw (packets_of-seen a at, f)
 
 -- the records of an area take at most twice its bytes
@@ -98,7 +98,7 @@ module _ (g : ℕ) (h : g ≤ 0x7fff) where
   none-unsound a b = sound-within (length a) a (omega arith) b
 
   -- and so is the one at a place
-  pub sound-found : (a : List ℕ) → Bytes a → (at d e : ℕ) → found_at a at ≡ Packet d e → sound_at written (record_of written g (packet (take (e - at) (drop at a)))) ≡ true
+  pub sound-found : (a : List ℕ) → Bytes a → (at d e : ℕ) → found_at a at ≡ found_packet d e → sound_at written (record_of written g (packet (take (e - at) (drop at a)))) ≡ true
   sound-found a b at d e f =
       head-sound (sound_at written (record_of written g (packet (take (e - at) (drop at a))))) (all_sound (sound_at written) (listed written (packets_at g (packets_of (drop e a)).packets))) (rw (packets_of-seen a at, f) at (none-unsound (drop at a) (bytes_drop at a b)))
     where

@@ -8,7 +8,7 @@ use native.Mathlib.Omega.{arith}
 use lib.ListN.{length, get_or, take, drop, length-take, length-drop}
 use lib.Seq.{length-take-le}
 use lib.Dec.{eqb, ltb}
-use borrow.Author.Tests.{eqb-true, ltb-true, ltb-false, le-ltb}
+use borrow.Author.Tests.{not-false, eqb-true, ltb-true, ltb-false, le-ltb}
 use Rattle.answers.specs.Stored.{kept_limit}
 use Rattle.laws.specs.Bytes.{Bytes, be16_at}
 use Rattle.laws.proofs.Bytes.{bytes_drop}
@@ -93,10 +93,6 @@ to-15 n = go (ltb n 0x8000) refl
     go true e q = omega (arith, ltb-true n 0x8000 e)
     go false e q = absurd (let z : ◌≡◌ {A = ℕ} 0 1 = cc in omega arith)
 
-not-false' : (t : Bool) → not t ≡ false → t ≡ true
-not-false' true e = refl
-not-false' false e = sym e
-
 length-one : (g : ℕ) (e : kind.Event) → length (bytes_of written (entry g e ∷ [])) ≡ 6 + length (kind.body_of written e)
 length-one g e = ap length (append-nil (record_of written g e)) ∙ length-written (kind.kind_of e) g (kind.body_of written e)
 
@@ -113,7 +109,7 @@ module _ (s : State) (small : Small s) (f : Frame) (b : Bytes f.payload) (e : Ev
 
   identified : not (eqb (length f.payload) 10) ≡ false → Fine (records_of (identity f.gateway (take 8 f.payload)))
   identified n =
-      let l = eqb-true (length f.payload) 10 (not-false' (eqb (length f.payload) 10) n) in
+      let l = eqb-true (length f.payload) 10 (not-false (eqb (length f.payload) 10) n) in
       fine-one f.gateway (kind.identity (take 8 f.payload)) gateway-15 (fits-identity f.gateway gateway-15 (take 8 f.payload) (length-take-le 8 f.payload (omega arith)))
 
   -- no record of the event is refused by 13 or 41
@@ -126,7 +122,7 @@ module _ (s : State) (small : Small s) (f : Frame) (b : Bytes f.payload) (e : Ev
       (λ k. let n : is_from (address_of (be16_at f.payload 4)) ≡ false = rw k at rows.1.1.1.1.1.1.1.1.1.1.0 in let h = to-15 (be16_at f.payload 4) n in fine-one (gateway_of (address_of (be16_at f.payload 4))) kind.enumeration_started h (fits-started (gateway_of (address_of (be16_at f.payload 4))) h))
       (λ k. identified (rw k at rows.1.1.1.1.1.1.0))
       (λ k. identified (rw k at rows.1.1.1.1.1.1.0))
-      (λ k. let n : not (is_text f.payload) ≡ false = rw k at rows.1.1.1.1.1.1.1.1.1.1.1.0 in fine-one f.gateway (kind.version_text f.payload) gateway-15 (fits-version f.gateway gateway-15 f.payload (omega (arith, payload-250)) ((is_text-text f.payload).0 (not-false' (is_text f.payload) n))))
+      (λ k. let n : not (is_text f.payload) ≡ false = rw k at rows.1.1.1.1.1.1.1.1.1.1.1.0 in fine-one f.gateway (kind.version_text f.payload) gateway-15 (fits-version f.gateway gateway-15 f.payload (omega (arith, payload-250)) ((is_text-text f.payload).0 (not-false (is_text f.payload) n))))
       (λ k. fine-one f.gateway kind.enumeration_ended gateway-15 (fits-ended f.gateway gateway-15))
       e
       (passed-step s f e q).1

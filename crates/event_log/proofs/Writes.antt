@@ -4,33 +4,42 @@ use mathlib.Core.Path.{◌≡◌, refl, sym, ◌∙◌, ap, subst}
 use Prim.Native.Nat.{ℕ, ◌+◌, ◌-◌, ◌≤◌, ◌<◌}
 use mathlib.Core.Bool.{Bool, true, false, cond, not, ◌&&◌}
 use mathlib.Core.List.{List, [], ◌∷◌, ◌++◌, append_assoc, append-nil}
+use mathlib.Core.Option.{none}
 use native.Mathlib.Omega.{arith}
 use lib.ListN.{length, take, drop, length-append, length-drop}
-use lib.Seq.{take_at, drop_at, length-take-le}
-use lib.Dec.{ltb}
-use borrow.Author.Tests.{lt-ltb, le-ltb, ltb-true, ltb-false}
+use lib.Seq.{take_all, take_at, drop_at, length-take-le}
+use Rattle.std.specs.Prelude.{min}
+use Rattle.std.proofs.lemmas.List.{drop_min}
+use lib.Dec.{ltb, leb}
+use borrow.Author.Tests.{lt-ltb, le-ltb, ltb-false, le-leb, lt-leb, leb-true, leb-false}
 use Rattle.laws.specs.Bytes.{Bytes, laid_over, laid_if}
 use Rattle.laws.specs.Handed.{Handed, refused, value}
 use Rattle.laws.proofs.Lay.{length-laid_over, laid_over-append, laid_over-take}
-use Rattle.network.specs.Split.{found_at}
-use Rattle.network.specs.declared.Found.TheVariants.{Packet}
+use Rattle.network.specs.Split.{found_packet, found_at}
 use Rattle.sound_record.specs.Record.{written, sound_at}
 use Rattle.event_record.specs.Event.{record_of}
 use Rattle.event_record.specs.Event as kind
 use Rattle.event_record.specs.Handed.{framed_handed, record_handed, record_bytes}
 use Rattle.event_record.proofs.Written.{length-written}
 use Rattle.event_record.proofs.Fit.{fits-counter}
-use Rattle.transport_receiver.specs.Step.{slot_counter}
+use Rattle.transport_receiver.specs.Step.{slot_counter, event_of}
 use Rattle.event_log.specs.Records.{Entry, entry, records_of, records_in, bytes_of, any_over, any_unsound, records_handed, records_bytes, answer_handed, answer_bytes}
-use Rattle.event_log.specs.Answers.{event_said, event_in, room_after}
-use Rattle.answers.specs.declared.Answer.{Answer}
-use Rattle.answers.specs.declared.said.Said.{Said}
-use Rattle.answers.specs.Said.{said_of}
-use Rattle.event_log.specs.declared.Room.TheVariants.{Left, Short}
+use Rattle.event_log.specs.Answers.{event_in, room_after}
+use Rattle.answers.specs.Refusals.{Answer}
+use Rattle.transport_receiver.specs.Handed.{refused_by}
+use Rattle.std.specs.Prelude as std
+use Rattle.std.specs.Prelude.{Option, None, Some, Err}
+use Rattle.event_record.specs.declared.RecordError.{RecordError}
+use Rattle.event_record.specs.declared.RecordError.TheVariants.{NoRoom}
+use Rattle.laws.proofs.Cases.{by}
 use Rattle.event_log.proofs.Areas.{area_bytes, area_space, length-area, length_found, bytes-packet, space-packet, none_over, none-unsound, sound-found}
 
 pub length_rest : (out : List ℕ) (to : ℕ) → length (take (length out - to) (drop to out)) ≡ length out - to
 length_rest out to = length-take-le (length out - to) (drop to out) (simp length-drop (omega arith))
+
+-- what follows the first bytes, where a slice starts behind as many of them as there are
+pub rest-of : (k n : ℕ) (s : List ℕ) → n ≡ min k (length s) → take (length s - n) (drop n s) ≡ drop k s
+rest-of k n s e = take_all (length s - n) (drop n s) (simp length-drop (omega arith)) ∙ ap (λ (m : ℕ). drop m s) e ∙ drop_min k s
 
 -- a part of a buffer from a place on, as a callee that laid a piece over it leaves it, and the buffer
 pub relaid : (r out part : List ℕ) (to : ℕ) → to + length r ≤ length out → part ≡ laid_over r (take (length out - to) (drop to out))
@@ -57,7 +66,7 @@ unfolding framed_handed
 record_bytes-laid g e out h s l = rw (le-ltb 0x7fff g h, s, le-ltb (length out) (length (record_of written g e)) l)
 
 -- one turn of `put_packets`: the record of the packet found goes behind those before it
-module _ (g : ℕ) (h : g ≤ 0x7fff) (a : List ℕ) (b : Bytes a) (at d e : ℕ) (f : found_at a at ≡ Packet d e) (out : List ℕ) (to : ℕ) (room : to + area_space (drop at a) ≤ length out)
+module _ (g : ℕ) (h : g ≤ 0x7fff) (a : List ℕ) (b : Bytes a) (at d e : ℕ) (f : found_at a at ≡ found_packet d e) (out : List ℕ) (to : ℕ) (room : to + area_space (drop at a) ≤ length out)
     (part : List ℕ) (q : part ≡ record_bytes g (kind.packet (take (e - at) (drop at a))) (take (length out - to) (drop to out))) where
   abbrev put : List ℕ
   put = record_of written g (kind.packet (take (e - at) (drop at a)))
@@ -132,25 +141,29 @@ handed-within g xs room {n} = go (ltb 0x7fff g) (any_over xs) (any_unsound xs) (
     go false false false true e f = let z : ◌≡◌ {A = ℕ} 0 1 = cc in absurd (omega arith)
     go false false false false e f = let m : length (bytes_of written xs) ≡ n = cc in omega (arith, ltb-false room (length (bytes_of written xs)) e)
 
--- no record: nothing is written
-pub writes-none : (out : List ℕ) → Writes [] out (value 0) out
+-- `write_event` cites these. No record: nothing is written
+pub records_none : (room : ℕ) → records_handed [] room ≡ value 0
 unfolding records_handed
-writes-none out = writes [] out (value 0) (rw (le-ltb (length out) 0 (omega arith)))
+records_none room = rw (le-ltb room 0 (omega arith))
+
+-- a refusal has no event
+pub event_of_refused : (n : ℕ) (value : Option ℕ) → event_of (refused_by n value) ≡ none
+event_of_refused n None = refl
+event_of_refused n (Some v) = refl
 
 -- one record: what its encoder hands back
 module _ (g : ℕ) (e : kind.Event) where
-  records-one : (room : ℕ) → records_handed (entry g e ∷ []) room ≡ record_handed g e room
+  pub records_one : (room : ℕ) → records_handed (entry g e ∷ []) room ≡ record_handed g e room
   unfolding records_handed framed_handed
-  records-one room = rw append-nil (go (ltb 0x7fff g) (sound_at written (record_of written g e)) (refused 13) (refused 41) (cond (ltb room (length (record_of written g e))) (refused 40) (value (length (record_of written g e)))))
+  records_one room = rw append-nil (go (ltb 0x7fff g) (sound_at written (record_of written g e)) (refused 13) (refused 41) (cond (ltb room (length (record_of written g e))) (refused 40) (value (length (record_of written g e)))))
     where
       go : (a b : Bool) (x y z : Handed ℕ) → cond (cond a true false) x (cond (not (b && true)) y z) ≡ cond a x (cond (not b) y z)
       go true b x y z = refl
       go false true x y z = refl
       go false false x y z = refl
 
-  pub writes_one : (out : List ℕ) (h : Handed ℕ) (after : List ℕ) → (h ≡ record_handed g e (length out)) × (after ≡ record_bytes g e out) → Writes (entry g e ∷ []) out h after
-  writes_one out h after w =
-      (w.0 ∙ sym (records-one (length out)), w.1 ∙ sym (rw (records-one (length out), append-nil)))
+  pub bytes_one : (out : List ℕ) → records_bytes (entry g e ∷ []) out ≡ record_bytes g e out
+  bytes_one out = rw (records_one (length out), append-nil)
 
 -- a receive response's records: 13 of the gateway, never 41, 40 of all
 pub length-slot : (g n : ℕ) (m : Bool) (a : List ℕ) → length (bytes_of written (records_of (slot_counter g n m a))) ≡ 9 + area_space a
@@ -194,36 +207,25 @@ module _ (g n : ℕ) (m : Bool) (a out : List ℕ) where
         (rw e y.0, w ∙ y.1)
 
 -- the room that is left, and the room that there is not
-pub room_after-left : (space room left : ℕ) → room_after space room ≡ Left left → (space ≤ room) × (left ≡ room - space)
+pub room_after-left : (space room left : ℕ) → room_after space room ≡ Some left → (space ≤ room) × (left ≡ room - space)
 unfolding room_after
-room_after-left space room left = go (ltb room space) refl
-  where
-    go : (t : Bool) → ltb room space ≡ t → cond t Short (Left (room - space)) ≡ Left left → (space ≤ room) × (left ≡ room - space)
-    go true e f = let z : ◌≡◌ {A = ℕ} 0 1 = cc in absurd (omega arith)
-    go false e f = let k : room - space ≡ left = cc in (ltb-false room space e, sym k)
+room_after-left space room left = by (leb space room) (λ t. rw t (λ f. let k : room - space ≡ left = cc in (leb-true space room t, sym k))) (λ t. rw t (λ f. let z : ◌≡◌ {A = ℕ} 0 1 = cc in absurd (omega arith)))
 
-pub room_after-short : (space room : ℕ) → room_after space room ≡ Short → room < space
+pub room_after-short : (space room : ℕ) → room_after space room ≡ None → room < space
 unfolding room_after
-room_after-short space room = go (ltb room space) refl
-  where
-    go : (t : Bool) → ltb room space ≡ t → cond t Short (Left (room - space)) ≡ Short → room < space
-    go true e f = ltb-true room space e
-    go false e f = let z : ◌≡◌ {A = ℕ} 0 1 = cc in absurd (omega arith)
+room_after-short space room = by (leb space room) (λ t. rw t (λ f. let z : ◌≡◌ {A = ℕ} 0 1 = cc in absurd (omega arith))) (λ t f. leb-false space room t)
 
-pub room_after-fits : (space room left : ℕ) → room ≡ left + space → Left left ≡ room_after space room
+-- with no room left a writer refuses by 40
+pub refused_no_room : (o : std.Option ℕ) (e : RecordError) → ◌≡◌ {A = std.Result ℕ RecordError} (Err e) (std.ok_or o NoRoom) → o ≡ None → e ≡ NoRoom
+refused_no_room o e f n = let g : ◌≡◌ {A = std.Result ℕ RecordError} (Err e) (Err NoRoom) = rw n at f in cc
+
+pub room_after-fits : (space room left : ℕ) → room ≡ left + space → Some left ≡ room_after space room
 unfolding room_after
-room_after-fits space room left e = let k : room - space ≡ left = omega arith in rw (le-ltb room space (omega arith), k)
+room_after-fits space room left e = let k : room - space ≡ left = omega arith in rw (le-leb space room (omega arith), k)
 
-pub room_after-narrow : (space room : ℕ) → room < space → Short ≡ room_after space room
+pub room_after-narrow : (space room : ℕ) → room < space → None ≡ room_after space room
 unfolding room_after
-room_after-narrow space room h = rw (lt-ltb room space h)
-
--- `write_event` cites this: what was heard of an answer, and the gateway of its address
-pub writes-said : (pool p out : List ℕ) (g i : ℕ) (a : Answer) (t u : Said) → i ≡ g → t ≡ said_of a → t ≡ u → (h : Handed ℕ) (after : List ℕ)
-    → Writes (records_in (event_said pool i p u)) out h after → Writes (records_in (event_in pool g p a)) out h after
-writes-said pool p out g i a t u x y z h after w =
-    subst (λ (k : ℕ). Writes (records_in (event_in pool k p a)) out h after) x
-    (subst (λ (v : Said). Writes (records_in (event_said pool i p v)) out h after) (sym z ∙ y) w)
+room_after-narrow space room h = rw (lt-leb space room h)
 
 -- `write` cites these: the gateway of its address
 pub gives-refused : (g i : ℕ) (xs : List Entry) (out : List ℕ) → i ≡ g → 0x7fff < i → Gives g xs out (refused 13) out

@@ -1,11 +1,14 @@
 -- Kind 8's body: its length, when it is sound, and that its four pieces copied in one after another lay it down. Assumes nothing.
 use mathlib.Core.Path.{◌≡◌, refl, ◌∙◌, ap}
-use Prim.Native.Nat.{ℕ, ◌+◌, ◌≤◌, ◌<◌}
-use mathlib.Core.Bool.{true, false}
+use Prim.Native.Nat.{ℕ, ◌+◌, ◌≤◌}
+use mathlib.Core.Bool.{true, ◌&&◌}
 use mathlib.Core.List.{List, [], ◌∷◌, ◌++◌, append_assoc}
 use native.Mathlib.Omega.{arith}
 use lib.ListN.{length, length-append}
-use borrow.Author.Tests.{le-leb}
+use lib.Dec.{leb}
+use borrow.Author.Tests.{leb-true, leb-false, le-leb}
+use Rattle.std.specs.Bool.{then_some}
+use Rattle.laws.proofs.Cases.{by}
 use Rattle.words.specs.Words.{copied_in}
 use Rattle.words.proofs.Laws.{copied_in-append}
 use Rattle.sound_record.specs.Record.{written, sound_body}
@@ -23,11 +26,14 @@ module _ (t u : ℕ) (q p : List ℕ) where
   command-sound h l =
       sound_body-8 written body (omega arith) (omega (arith, length-command)) ∙ le-leb (3 + length q) (length body) (omega (arith, length-command))
 
-  pub command-wide : 255 < length q → sound_body written 8 body ≡ false
-  command-wide h = sound_body-8-wide written body h
-
-  pub command-long : 1025 < 3 + length q + length p → sound_body written 8 body ≡ false
-  command-long h = sound_body-8-long written body (omega (arith, length-command))
+  -- what `command` asks of the two payloads' lengths is that the body is sound
+  pub command-size : then_some (leb (length q) 255 && leb (length q + length p) 1022) (3 + length q + length p) ≡ then_some (sound_body written 8 body) (length body)
+  command-size =
+      by (leb (length q) 255)
+      (λ h. by (leb (length q + length p) 1022)
+      (λ l. rw (h, l, length-command, command-sound (leb-true _ 255 h) (omega (arith, leb-true _ 1022 l))))
+      (λ l. rw (h, l, sound_body-8-long written body (omega (arith, length-command, leb-false _ 1022 l)))))
+      (λ h. rw (h, sound_body-8-wide written body (leb-false _ 255 h)))
 
   -- a piece behind those before it
   laid : (out xs ys d e : List ℕ) (k : ℕ) → 6 + length xs + length ys ≤ length out → d ≡ copied_in out 6 xs → k ≡ 6 + length xs → e ≡ copied_in d k ys

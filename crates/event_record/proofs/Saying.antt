@@ -14,6 +14,7 @@ use Rattle.laws.specs.Bytes.{Bytes}
 use Rattle.sound_record.specs.Record.{kind_at, between, body_start, is_counter, is_body, sound_body, all_below, sound_at}
 use Rattle.event_record.specs.Layout.{extra, framed}
 use Rattle.event_record.specs.Event.{Event, enumeration_started, identity, version_text, enumeration_ended, slot_captured, slot_counter, packet, command, kind_of, body_of, record_of, event_of, gateway_in, says_of}
+use Rattle.sound_record.proofs.Numbers.{numbers}
 use Rattle.sound_record.proofs.Soundness.{Parts, both, sound-parts, sound_body-1, sound_body-4, sound_body-5, sound_body-8, sound_body-other}
 use Rattle.event_record.proofs.Written.{sound-small}
 
@@ -31,7 +32,7 @@ empty (x ∷ xs) e = absurd (omega (arith, eqb-true (length (x ∷ xs)) 0 e))
 module _ (v : ℕ) where
   no_kind : {P : Type 0} (k : ℕ) (b : List ℕ) → 8 < k → sound_body v k b ≡ true → P
   no_kind k b h s =
-      let f : sound_body v k b ≡ false = sound_body-other v b k (λ e. omega arith) (λ e. omega arith) (λ e. omega arith) (λ e. omega arith) (λ e. omega arith) (λ e. omega arith) (λ e. omega arith) (λ e. omega arith) in
+      let f : sound_body v k b ≡ false = sound_body-other v b k (λ kind e. omega (arith, numbers kind)) in
       let z : ◌≡◌ {A = ℕ} 0 1 = cc in
       absurd (omega arith)
 
@@ -76,7 +77,7 @@ module _ (v : ℕ) where
 
   said : (k : ℕ) (b : List ℕ) → Bytes b → sound_body v k b ≡ true → Said v k b
   unfolding event_of
-  said zero b h s = let f : sound_body v 0 b ≡ false = sound_body-other v b 0 (λ e. omega arith) (λ e. omega arith) (λ e. omega arith) (λ e. omega arith) (λ e. omega arith) (λ e. omega arith) (λ e. omega arith) (λ e. omega arith) in let z : ◌≡◌ {A = ℕ} 0 1 = cc in absurd (omega arith)
+  said zero b h s = let f : sound_body v 0 b ≡ false = sound_body-other v b 0 (λ kind e. omega (arith, numbers kind)) in let z : ◌≡◌ {A = ℕ} 0 1 = cc in absurd (omega arith)
   said (suc zero) b h s = record { event = enumeration_started; says = refl; kind = refl; body = empty b (sym (sound_body-1 v b) ∙ s) }
   said (suc (suc zero)) b h s = record { event = identity b; says = refl; kind = refl; body = refl }
   said (suc (suc (suc zero))) b h s = record { event = version_text b; says = refl; kind = refl; body = refl }

@@ -13,13 +13,14 @@ use lib.Dec.{ltb}
 use borrow.Author.Tests.{ltb-false}
 use Rattle.laws.specs.Bytes.{laid_if}
 use Rattle.laws.specs.Handed.{Handed, refused, value}
+use Rattle.laws.specs.Numbers.{number_of}
 use Rattle.sound_record.specs.Record.{written, sound_at, stands_at}
 use Rattle.event_record.specs.Layout.{extra, framed}
 use Rattle.event_record.specs.Event.{Event, enumeration_started, identity, version_text, enumeration_ended, slot_captured, slot_counter, packet, command, kind_of, body_of, record_of, event_of, gateway_in, says_of}
-use Rattle.event_record.specs.Handed.{handed, framed_handed, record_handed, record_bytes}
-use Rattle.sound_record.specs.declared.Stands.TheVariants.{Record}
-use Rattle.event_record.specs.declared.Recorded.{Recorded}
-use Rattle.event_record.specs.declared.Recorded.TheVariants.{Written, InvalidGateway, Unsound, NoRoom}
+use Rattle.event_record.specs.Handed.{refusal_of, handed, framed_handed, record_handed, record_bytes}
+use Rattle.std.specs.Prelude.{Some, Result, Ok, Err}
+use Rattle.event_record.specs.declared.RecordError.{RecordError}
+use Rattle.event_record.specs.declared.RecordError.TheVariants.{InvalidGatewayID, Unsound, NoRoom}
 use Rattle.sound_record.proofs.Places.{stands-within}
 use Rattle.event_record.proofs.Written.{drop-framed}
 
@@ -29,23 +30,22 @@ unfolding framed extra
 ended-1201 = refl
 
 -- any two answers of an encoder that hand back the same are the same
-pub handed-apart : (x y : Recorded) → handed x ≡ handed y → x ≡ y
-handed-apart (Written m) (Written n) e = let f : m ≡ n = cc in ap Written f
-handed-apart (Written m) InvalidGateway e = let z : ◌≡◌ {A = ℕ} 0 1 = cc in absurd (omega arith)
-handed-apart (Written m) Unsound e = let z : ◌≡◌ {A = ℕ} 0 1 = cc in absurd (omega arith)
-handed-apart (Written m) NoRoom e = let z : ◌≡◌ {A = ℕ} 0 1 = cc in absurd (omega arith)
-handed-apart InvalidGateway (Written n) e = let z : ◌≡◌ {A = ℕ} 0 1 = cc in absurd (omega arith)
-handed-apart InvalidGateway InvalidGateway e = refl
-handed-apart InvalidGateway Unsound e = let z : ◌≡◌ {A = ℕ} 13 41 = cc in absurd (omega arith)
-handed-apart InvalidGateway NoRoom e = let z : ◌≡◌ {A = ℕ} 13 40 = cc in absurd (omega arith)
-handed-apart Unsound (Written n) e = let z : ◌≡◌ {A = ℕ} 0 1 = cc in absurd (omega arith)
-handed-apart Unsound InvalidGateway e = let z : ◌≡◌ {A = ℕ} 41 13 = cc in absurd (omega arith)
-handed-apart Unsound Unsound e = refl
-handed-apart Unsound NoRoom e = let z : ◌≡◌ {A = ℕ} 41 40 = cc in absurd (omega arith)
-handed-apart NoRoom (Written n) e = let z : ◌≡◌ {A = ℕ} 0 1 = cc in absurd (omega arith)
-handed-apart NoRoom InvalidGateway e = let z : ◌≡◌ {A = ℕ} 40 13 = cc in absurd (omega arith)
-handed-apart NoRoom Unsound e = let z : ◌≡◌ {A = ℕ} 40 41 = cc in absurd (omega arith)
-handed-apart NoRoom NoRoom e = refl
+pub handed-apart : (x y : Result ℕ RecordError) → handed x ≡ handed y → x ≡ y
+handed-apart (Ok m) (Ok n) e = let f : m ≡ n = cc in ap Ok f
+handed-apart (Ok m) (Err y) e = let z : ◌≡◌ {A = ℕ} 0 1 = cc in absurd (omega arith)
+handed-apart (Err x) (Ok n) e = let z : ◌≡◌ {A = ℕ} 0 1 = cc in absurd (omega arith)
+handed-apart (Err x) (Err y) e = let f : number_of (refusal_of x) ≡ number_of (refusal_of y) = cc in ap Err (apart x y f)
+  where
+    apart : (x y : RecordError) → number_of (refusal_of x) ≡ number_of (refusal_of y) → x ≡ y
+    apart InvalidGatewayID InvalidGatewayID e = refl
+    apart Unsound Unsound e = refl
+    apart NoRoom NoRoom e = refl
+    apart InvalidGatewayID Unsound e = absurd (omega arith)
+    apart InvalidGatewayID NoRoom e = absurd (omega arith)
+    apart Unsound InvalidGatewayID e = absurd (omega arith)
+    apart Unsound NoRoom e = absurd (omega arith)
+    apart NoRoom InvalidGatewayID e = absurd (omega arith)
+    apart NoRoom Unsound e = absurd (omega arith)
 
 module _ (v : ℕ) where
   -- a body says the event that it was made of
@@ -101,11 +101,11 @@ module _ (g : ℕ) (e : Event) where
       go false true s true f h = let z : ◌≡◌ {A = ℕ} 0 1 = cc in absurd (omega arith)
       go false true s false f h = let m : length r ≡ n = cc in (s, sym m, omega (arith, ltb-false room (length r) f))
 
-  pub written_stands : (out : List ℕ) (n : ℕ) → record_handed g e (length out) ≡ value n → stands_at written (record_bytes g e out) 0 ≡ Record n
+  pub written_stands : (out : List ℕ) (n : ℕ) → record_handed g e (length out) ≡ value n → stands_at written (record_bytes g e out) 0 ≡ Some n
   written_stands out n h =
       let r = record_of written g e in
       let s = written-sound (length out) n h in
       let z : 0 + length r ≡ n = omega (arith, s.1) in
       ap (λ (x : Handed ℕ). stands_at written (laid_if x r out) 0) h
       ∙ stands-within written r s.0 [] (drop (length r) out)
-      ∙ ap Record z
+      ∙ ap Some z

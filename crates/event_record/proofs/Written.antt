@@ -1,22 +1,25 @@
 -- What is written: the exact length of a record, that it is sound exactly if its body is, and the answers of the encoders.
 -- Assumes nothing.
 use mathlib.Core.Path.{◌≡◌, refl, sym, ◌∙◌, ap}
-use Prim.Native.Nat.{ℕ, ◌+◌, ◌≤◌, ◌<◌}
+use Prim.Native.Nat.{ℕ, ◌+◌, ◌≤◌}
 use mathlib.Core.Bool.{Bool, true, false, cond}
 use mathlib.Core.List.{List, [], ◌++◌}
 use native.Mathlib.Omega.{arith}
 use native.Mathlib.Nat.{div-add-mod'}
 use lib.ListN.{length, drop, length-append}
 use lib.Seq.{drop_at}
-use lib.Dec.{leb, eqb}
-use borrow.Author.Tests.{leb-true, lt-ltb, le-ltb}
+use lib.Dec.{leb, ltb, eqb}
+use borrow.Author.Tests.{leb-true, ltb-false}
 use Rattle.laws.specs.Bytes.{be16, laid_over, laid_if}
 use Rattle.words.specs.Words.{copied_in}
 use Rattle.words.proofs.Laws.{copied_in-laid_over}
 use Rattle.sound_record.specs.Record.{written, between, body_start, body_limit, is_body, sound_body, all_below, sound_at}
 use Rattle.event_record.specs.Layout.{extra, following, framed, head_of}
 use Rattle.laws.specs.Handed.{Handed, refused, value}
-use Rattle.event_record.specs.Handed.{framed_handed, framed_bytes}
+use Rattle.event_record.specs.Handed.{admitted, framed_handed, framed_bytes}
+use Rattle.std.specs.Prelude.{IfSome, is_none, unwrap_or}
+use Rattle.std.specs.Bool.{then_some}
+use Rattle.laws.proofs.Cases.{by}
 use Rattle.sound_record.proofs.Soundness.{body_start-written, both, sound-body}
 
 -- no sound body is longer than kind 8 allows
@@ -27,6 +30,13 @@ sound-small v kind b e = go (eqb kind 8) (leb-true (length b) (body_limit v kind
     go : (t : Bool) → length b ≤ cond t 1025 1024 → length b ≤ 1025
     go true h = h
     go false h = omega arith
+
+pub sized-small : (v kind : ℕ) (b : List ℕ) → IfSome (then_some (sound_body v kind b) (length b)) (λ n. n ≤ 1025)
+sized-small v kind b = go (sound_body v kind b) (sound-small v kind b)
+  where
+    go : (t : Bool) → (t ≡ true → length b ≤ 1025) → IfSome (then_some t (length b)) (λ n. n ≤ 1025)
+    go true h = h refl
+    go false h = tt
 
 -- what a version writes between gateway and body is what may stand there
 pub length-extra : (v : ℕ) → length (extra v) ≡ length (between v)
@@ -82,57 +92,33 @@ framed-laid kind g n body out d e h l f i =
     ∙ copied_in-laid_over head body out (omega (arith, k))
     ∙ ap (λ (r : List ℕ). laid_over r out) (sym (framed-head written kind g body))
 
--- the order 13, 41, 40
+-- the order 13, 41, 40, asked of a body's soundness and length, is the one asked of the record
 module _ (kind g : ℕ) (body : List ℕ) (room : ℕ) where
-  pub handed-13 : 0x7fff < g → framed_handed kind g body room ≡ refused 13
+  pub admitted-framed : admitted g (then_some (sound_body written kind body) (length body)) room ≡ framed_handed kind g body room
   unfolding framed_handed
-  handed-13 h = rw (lt-ltb 0x7fff g h)
+  admitted-framed =
+      by (ltb 0x7fff g) (λ t. rw t)
+      (λ t. let h = ltb-false 0x7fff g t in
+      rw (t, sound_at-framed written kind g body h, length-written kind g body)
+      (by (sound_body written kind body) (λ u. rw u) (λ u. rw u)))
 
-  module _ (h : g ≤ 0x7fff) where
-    pub handed-41 : sound_body written kind body ≡ false → framed_handed kind g body room ≡ refused 41
-    unfolding framed_handed
-    handed-41 s = rw (le-ltb 0x7fff g h, sound_at-framed written kind g body h, s)
+  -- what is admitted is sound, and has room
+  pub admitted-fits : (n : ℕ) → value n ≡ admitted g (then_some (sound_body written kind body) (length body)) room
+      → (sound_body written kind body ≡ true) × (n ≡ 6 + length body) × (n ≤ room)
+  admitted-fits n = go (ltb 0x7fff g) (sound_body written kind body) (ltb room (6 + length body)) refl
+    where
+      go : (a b c : Bool) → ltb room (6 + length body) ≡ c
+          → value n ≡ cond a (refused 13) (cond (is_none (then_some b (length body))) (refused 41) (cond (ltb room (6 + unwrap_or (then_some b (length body)) 0)) (refused 40) (value (6 + unwrap_or (then_some b (length body)) 0))))
+          → (b ≡ true) × (n ≡ 6 + length body) × (n ≤ room)
+      go true b c f e = let z : ◌≡◌ {A = ℕ} 0 1 = cc in absurd (omega arith)
+      go false false c f e = let z : ◌≡◌ {A = ℕ} 0 1 = cc in absurd (omega arith)
+      go false true true f e = absurd (let h : value n ≡ refused 40 = rw f at e in let z : ◌≡◌ {A = ℕ} 0 1 = cc in omega arith)
+      go false true false f e = let h : value n ≡ value (6 + length body) = rw f at e in let m : n ≡ 6 + length body = cc in (refl, m, omega (arith, ltb-false room (6 + length body) f))
 
-    module _ (s : sound_body written kind body ≡ true) where
-      pub handed-40 : room < 6 + length body → framed_handed kind g body room ≡ refused 40
-      unfolding framed_handed
-      handed-40 n =
-          rw (
-            le-ltb 0x7fff g h,
-            sound_at-framed written kind g body h,
-            s,
-            length-written kind g body,
-            lt-ltb room (6 + length body) n,
-          )
+-- what an encoder hands back and leaves in the buffer: the record over its start, if it is admitted
+module _ (kind g : ℕ) (body out : List ℕ) (h : Handed ℕ) where
+  abbrev pub Answers : List ℕ → Type 0
+  Answers after = (h ≡ framed_handed kind g body (length out)) × (after ≡ framed_bytes kind g body out)
 
-      pub handed-value : 6 + length body ≤ room → framed_handed kind g body room ≡ value (6 + length body)
-      unfolding framed_handed
-      handed-value n =
-          rw (
-            le-ltb 0x7fff g h,
-            sound_at-framed written kind g body h,
-            s,
-            length-written kind g body,
-            le-ltb room (6 + length body) n,
-          )
-
--- what an encoder hands back and leaves in the buffer
-module _ (kind g : ℕ) (body out : List ℕ) where
-  abbrev pub Answers : Handed ℕ → List ℕ → Type 0
-  Answers h after = (h ≡ framed_handed kind g body (length out)) × (after ≡ framed_bytes kind g body out)
-
-  answers : (h : Handed ℕ) → framed_handed kind g body (length out) ≡ h → Answers h (laid_if h (framed written kind g body) out)
-  answers h e = (sym e, ap (λ (x : Handed ℕ). laid_if x (framed written kind g body) out) (sym e))
-
-  pub refused-13 : 0x7fff < g → Answers (refused 13) out
-  refused-13 h = answers (refused 13) (handed-13 kind g body (length out) h)
-
-  pub refused-41 : g ≤ 0x7fff → sound_body written kind body ≡ false → Answers (refused 41) out
-  refused-41 h s = answers (refused 41) (handed-41 kind g body (length out) h s)
-
-  pub refused-40 : g ≤ 0x7fff → sound_body written kind body ≡ true → length out < 6 + length body → Answers (refused 40) out
-  refused-40 h s n = answers (refused 40) (handed-40 kind g body (length out) h s n)
-
-  pub accepted : g ≤ 0x7fff → sound_body written kind body ≡ true → 6 + length body ≤ length out
-      → (n : ℕ) (after : List ℕ) → n ≡ 6 + length body → after ≡ laid_over (framed written kind g body) out → Answers (value n) after
-  accepted h s l n after e f = rw (e, f) (answers (value (6 + length body)) (handed-value kind g body (length out) h s l))
+  pub answers : h ≡ admitted g (then_some (sound_body written kind body) (length body)) (length out) → Answers (laid_if h (framed written kind g body) out)
+  answers e = let f = e ∙ admitted-framed kind g body (length out) in (f, ap (λ (x : Handed ℕ). laid_if x (framed written kind g body) out) f)

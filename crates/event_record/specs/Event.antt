@@ -2,6 +2,8 @@
 use Rattle.std.specs.Prelude.{ℕ, ◌+◌, Bool, cond, List, [], ◌∷◌, ◌++◌, length, get_or, take, drop, eqb}
 use Rattle.std.proofs.Math.Option.{Option, none, some}
 use Rattle.laws.specs.Bytes.{be16, be16_at}
+use Rattle.sound_record.specs.declared.Kind.TheVariants.{EnumerationStarted, Identity, VersionText, EnumerationEnded, SlotCaptured, SlotCounter, Packet, Command}
+use Rattle.sound_record.specs.Kinds.{number_of}
 use Rattle.sound_record.specs.Record.{kind_at, gateway_at, body_start, request_width, request_length}
 use Rattle.event_record.specs.Layout.{framed}
 
@@ -20,14 +22,14 @@ pub data Event : Type 0 where
 
 -- the number of each kind in 01's list
 abbrev pub kind_of : Event → ℕ
-kind_of enumeration_started = 1
-kind_of (identity address) = 2
-kind_of (version_text text) = 3
-kind_of enumeration_ended = 4
-kind_of slot_captured = 5
-kind_of (slot_counter counter repeat) = 6
-kind_of (packet bytes) = 7
-kind_of (command asked request answered response) = 8
+kind_of enumeration_started = number_of EnumerationStarted
+kind_of (identity address) = number_of Identity
+kind_of (version_text text) = number_of VersionText
+kind_of enumeration_ended = number_of EnumerationEnded
+kind_of slot_captured = number_of SlotCaptured
+kind_of (slot_counter counter repeat) = number_of SlotCounter
+kind_of (packet bytes) = number_of Packet
+kind_of (command asked request answered response) = number_of Command
 
 -- 01, "Event record": request payload length (1): as version v writes it
 abbrev pub count_of : ℕ → ℕ → List ℕ

@@ -1,22 +1,35 @@
 -- What an encoder hands back, in 01's numbers and values, and what it leaves in the buffer. Assumes nothing.
-use Rattle.std.specs.Prelude.{ℕ, not, List, [], ◌∷◌, length, ltb}
+use Rattle.std.specs.Prelude.{ℕ, ◌+◌, not, List, [], ◌∷◌, length, ltb, Option, is_none, unwrap_or, Result, Ok, Err}
 use Rattle.laws.specs.Bytes.{laid_if}
 use Rattle.laws.specs.Handed.{Handed, value}
-use Rattle.laws.specs.Numbers.{refused_as, row, judged, invalid_id, no_room_for_record, unsound_record}
+use Rattle.laws.specs.Numbers.{Refusal, refused_as, row, judged, invalid_id, no_room_for_record, unsound_record}
 use Rattle.address.specs.Address.{id_limit}
 use Rattle.sound_record.specs.Record.{written, sound_at}
 use Rattle.event_record.specs.Layout.{framed}
 use Rattle.event_record.specs.Event.{Event, kind_of, body_of}
-use Rattle.event_record.specs.declared.Recorded.{Recorded}
-use Rattle.event_record.specs.declared.Recorded.TheVariants.{Written, InvalidGateway, Unsound, NoRoom}
+use Rattle.event_record.specs.declared.RecordError.{RecordError}
+use Rattle.event_record.specs.declared.RecordError.TheVariants.{InvalidGatewayID, Unsound, NoRoom}
 
 -- 01, "Numbers handed back", 13: gateway ID above 7fff; 41: event whose record would not be sound; 40: event record: room below its whole
 -- length; else how many bytes were written
-abbrev pub handed : Recorded → Handed ℕ
-handed (Written n) = value n
-handed InvalidGateway = refused_as invalid_id
-handed Unsound = refused_as unsound_record
-handed NoRoom = refused_as no_room_for_record
+abbrev pub refusal_of : RecordError → Refusal
+refusal_of InvalidGatewayID = invalid_id
+refusal_of Unsound = unsound_record
+refusal_of NoRoom = no_room_for_record
+
+abbrev pub handed : Result ℕ RecordError → Handed ℕ
+handed (Ok n) = value n
+handed (Err e) = refused_as (refusal_of e)
+
+-- the same three, in that order, of a body that has so many bytes, or that is not sound; six bytes stand before it
+abbrev pub admitted : ℕ → Option ℕ → ℕ → Handed ℕ
+admitted gateway body room =
+    judged
+    (row invalid_id (ltb id_limit gateway)
+    ∷ row unsound_record (is_none body)
+    ∷ row no_room_for_record (ltb room (6 + unwrap_or body 0))
+    ∷ [])
+    (value (6 + unwrap_or body 0))
 
 -- 01, "Numbers handed back", for an event record 13, 41, 40: gateway ID above 7fff; event whose record would not be sound; room below
 -- its whole length

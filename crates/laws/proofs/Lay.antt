@@ -43,11 +43,3 @@ paste-append d at xs ys h =
       take-length (xs ++ ys),
     )
     (ap (λ (l : List ℕ). l ++ drop (at + length (xs ++ ys)) d) (append_assoc (take at d) xs ys))
-
--- a piece copied over the part of a buffer that starts at a place is a copy at that place
-pub paste-part : (d : List ℕ) (at : ℕ) (s : List ℕ) → at ≤ length d
-    → put_mid at (length d - at) d (take (length s) s ++ drop (length s) (mid_of at (length d - at) d)) ≡ paste d at s (length s)
-paste-part d at s h =
-    let l : length (drop at d) ≤ length d - at = simp length-drop (omega arith) in
-    rw (take_all (length d - at) (drop at d) l, drop_of_length-le (drop at d) l, append-nil, drop-drop)
-    (sym (append_assoc (take at d) (take (length s) s) (drop (at + length s) d)))

@@ -4,7 +4,9 @@ use Prim.Native.Nat.{ℕ}
 use mathlib.Core.Bool.{cond}
 use mathlib.Core.List.{List, [], ◌∷◌}
 use lib.Dec.{eqb}
-use Rattle.laws.specs.Numbers.{Refusal, number_of, too_long, no_room, over_limit, invalid_id, no_unit, wrong_direction, wrong_length, wrong_status, too_short, unknown_gateway, numbers_full, sequences_full, commands_full, names_from, no_text, no_request, unhandled_type, payload_too_long, no_room_for_record, unsound_record}
+use Rattle.std.specs.Prelude.{Result, Ok, Err, IsErrAnd}
+use Rattle.std.proofs.lemmas.Result.{err_from_is_err_and}
+use Rattle.laws.specs.Numbers.{handed_by, KeepsNumber, refused_as, Refusal, number_of, too_long, no_room, over_limit, invalid_id, no_unit, wrong_direction, wrong_length, wrong_status, too_short, unknown_gateway, numbers_full, sequences_full, commands_full, names_from, no_text, no_request, unhandled_type, payload_too_long, no_room_for_record, unsound_record}
 
 -- all rows of the table
 abbrev table : List Refusal
@@ -44,3 +46,16 @@ row_at-number_of unsound_record = refl
 -- 01, "Numbers handed back": a number stands in one row
 pub number_of-apart : (a b : Refusal) → number_of a ≡ number_of b → a ≡ b
 number_of-apart a b e = sym (row_at-number_of a) ∙ ap (λ (n : ℕ). row_at n table) e ∙ row_at-number_of b
+
+-- two answers that 01 cannot tell apart are one, where different errors stand for different rows: the crates' own answers cite this
+pub handed_by-same : {A E : Type 0} (f : E → Refusal) → ((d e : E) → f d ≡ f e → d ≡ e) → (a b : Result A E) → handed_by f a ≡ handed_by f b → a ≡ b
+handed_by-same f h (Ok x) (Ok y) e = cc
+handed_by-same f h (Ok x) (Err d) e = cc
+handed_by-same f h (Err d) (Ok y) e = cc
+handed_by-same f h (Err c) (Err d) e =
+    let n : number_of (f c) ≡ number_of (f d) = cc in
+    ap Err (h c d (number_of-apart (f c) (f d) n))
+
+-- what is handed back where `?` made the error of another that keeps its row: the functions that pass on a refusal cite this
+pub handed_by-kept : {A D E : Type 0} (f : D → Refusal) (g : E → Refusal) (r : Result A E) (d : D) → IsErrAnd r (KeepsNumber f g d) → handed_by g r ≡ refused_as (f d)
+handed_by-kept f g r d h = let p = err_from_is_err_and r h in rw p.1 (ap refused_as p.2)

@@ -1,6 +1,6 @@
 -- 01's table of refusals, the number of each, and which of a function's refusals is given. Assumes nothing.
-use Rattle.std.specs.Prelude.{ℕ, Bool, cond, List, [], ◌∷◌}
-use Rattle.laws.specs.Handed.{Handed, refused}
+use Rattle.std.specs.Prelude.{◌≡◌, ℕ, Bool, cond, List, [], ◌∷◌, Result, Ok, Err}
+use Rattle.laws.specs.Handed.{Handed, refused, value}
 
 -- 01, "Numbers handed back": the rows of the table in its order, each under its words
 pub data Refusal : Type 0 where
@@ -71,6 +71,15 @@ number_of unsound_record = 41
 -- a refusal, handed back by its number
 abbrev pub refused_as : {A : Type 0} → Refusal → Handed A
 refused_as r = refused (number_of r)
+
+-- what a function's answer hands back: the value of an Ok, or the number of the row that its error stands for
+abbrev pub handed_by : {A E : Type 0} → (E → Refusal) → Result A E → Handed A
+handed_by f (Ok a) = value a
+handed_by f (Err e) = refused_as (f e)
+
+-- an error that another becomes keeps the row that it stands for
+abbrev pub KeepsNumber : {D E : Type 0} → (D → Refusal) → (E → Refusal) → D → E → Type 0
+KeepsNumber f g d e = g e ≡ f d
 
 -- a refusal that a function may give, and whether its row holds
 pub record Row : Type 0 where

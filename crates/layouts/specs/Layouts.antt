@@ -1,15 +1,14 @@
 -- The payload layouts of fixed and of least length: what the bytes at each place are. Assumes nothing.
-use Rattle.std.specs.Prelude.{ℕ, cond, List, [], ◌∷◌, length, get_or, take, drop, eqb, ltb}
+use Rattle.std.specs.Prelude.{ℕ, cond, List, [], ◌∷◌, length, get_or, take, drop, eqb, ltb, Result, Ok, Err}
 use Rattle.laws.specs.Bytes.{be16_at}
 use Rattle.laws.specs.Handed.{Handed, value}
 use Rattle.laws.specs.Numbers.{refused_as, wrong_length, names_from}
 use Rattle.address.specs.declared.Address.{Address}
 use Rattle.address.specs.declared.Address.TheVariants.{From, To}
 use Rattle.address.specs.Address.{address_of}
-use Rattle.layouts.specs.declared.Length.{Length}
-use Rattle.layouts.specs.declared.Length.TheVariants.{Right, Wrong}
-use Rattle.layouts.specs.declared.Named.{Named}
-use Rattle.layouts.specs.declared.Named.TheVariants.{Gateway, FromAddress}
+use Rattle.address.specs.declared.GatewayID.{GatewayID}
+use Rattle.layouts.specs.declared.WrongLength.{WrongLength}
+use Rattle.layouts.specs.declared.NamesFrom.{NamesFrom}
 use Rattle.layouts.specs.declared.CommandRequest.{CommandRequest}
 use Rattle.layouts.specs.declared.CommandResponse.{CommandResponse}
 use Rattle.layouts.specs.declared.ReceiveRequest.{ReceiveRequest}
@@ -17,17 +16,17 @@ use Rattle.layouts.specs.declared.IdentifyResponse.{IdentifyResponse}
 use Rattle.layouts.specs.declared.EnumerationStartRequest.{EnumerationStartRequest}
 
 -- 01, "Numbers handed back", 21: wrong or short fixed length
-abbrev pub handed : {A : Type 0} → Length → A → Handed A
-handed Right a = value a
-handed Wrong a = refused_as wrong_length
+abbrev pub handed : {A : Type 0} → Result A WrongLength → Handed A
+handed (Ok a) = value a
+handed (Err e) = refused_as wrong_length
 
--- a payload of exactly so many bytes, where 01 says "exactly"
-abbrev pub exactly : ℕ → List ℕ → Length
-exactly n payload = cond (eqb (length payload) n) Right Wrong
+-- what is read of a payload of exactly so many bytes, where 01 says "exactly"
+abbrev pub exactly : {A : Type 0} → ℕ → List ℕ → A → Result A WrongLength
+exactly n payload a = cond (eqb (length payload) n) (Ok a) (Err (record {}))
 
--- a payload of so many bytes or more, where 01 gives a length alone
-abbrev pub at_least : ℕ → List ℕ → Length
-at_least n payload = cond (ltb (length payload) n) Wrong Right
+-- what is read of a payload of so many bytes or more, where 01 gives a length alone
+abbrev pub at_least : {A : Type 0} → ℕ → List ℕ → A → Result A WrongLength
+at_least n payload a = cond (ltb (length payload) n) (Err (record {})) (Ok a)
 
 -- 01, "Transport": command request 3 unknown, packet type, sequence (5): its length ..
 abbrev pub command_request_length : ℕ
@@ -99,18 +98,18 @@ enumeration_start_request_in p =
     }
 
 -- the gateway that an address names if its direction is To
-abbrev pub to_gateway : Address → Named
-to_gateway (To g) = Gateway g
-to_gateway (From g) = FromAddress
+abbrev pub to_gateway : Address → Result GatewayID NamesFrom
+to_gateway (To g) = Ok g
+to_gateway (From g) = Err (record {})
 
 -- the same of an address's two bytes, big-endian
-unfoldable pub named_of : List ℕ → Named
+unfoldable pub named_of : List ℕ → Result GatewayID NamesFrom
 named_of address = to_gateway (address_of (be16_at address 0))
 
 -- 01, "Numbers handed back", 28: enumeration start names a From address
-abbrev pub handed_named : Named → Handed ℕ
-handed_named (Gateway g) = value g.0
-handed_named FromAddress = refused_as names_from
+abbrev pub handed_named : Result GatewayID NamesFrom → Handed ℕ
+handed_named (Ok g) = value g.0
+handed_named (Err e) = refused_as names_from
 
 -- WHAT THE STEP READS, each from its layout
 

@@ -8,36 +8,11 @@ use address::{Address, GatewayID};
 use network::{LongAddress, PacketType};
 pub use transport::CommandSequenceNumber;
 use transport::PacketNumber;
-use words::{be16, byte_at};
+use words::byte_at;
 
-// Whether a payload has the length of its layout. A wrong one is refused by 21.
-#[derive(Clone, Copy)]
-pub enum Length {
-    Right,
-    Wrong,
-}
-
-// Whether a payload has exactly `n` bytes.
-fn exact_length(payload: &[u8], n: usize) -> Length
-    ensures { result ≡ exactly n payload.now }
-{
-    if payload.len() == n {
-        Length::Right
-    } else {
-        Length::Wrong
-    }
-}
-
-// Whether a payload has `n` bytes or more.
-fn least_length(payload: &[u8], n: usize) -> Length
-    ensures { result ≡ at_least n payload.now }
-{
-    if payload.len() < n {
-        Length::Wrong
-    } else {
-        Length::Right
-    }
-}
+// A payload has not the length of its layout: the refusal 21.
+#[derive(Clone, Copy, PartialEq, Eq)]
+pub struct WrongLength;
 
 // A command request frame payload.
 #[derive(Clone, Copy)]
@@ -47,19 +22,21 @@ pub struct CommandRequest {
     pub sequence_number: CommandSequenceNumber,
 }
 
-// What `CommandRequest::read` gives. Where the length is wrong, a byte that is not there is 0.
-#[derive(Clone, Copy)]
-pub struct ReadCommandRequest {
-    pub length: Length,
-    pub request: CommandRequest,
-}
-
 impl CommandRequest {
-    // The request that a payload of at least 5 bytes starts with.
-    pub fn read(payload: &[u8]) -> ReadCommandRequest
-        ensures { result ≡ record { length = at_least command_request_length payload.now; request = command_request_in payload.now } }
+    // The request that a payload starts with. Refused by 21 if under 5 bytes.
+    pub fn read(payload: &[u8]) -> Result<CommandRequest, WrongLength>
+        ensures { result ≡ at_least command_request_length payload.now (command_request_in payload.now) }
     {
-        let length = least_length(payload, 5);
+        if payload.len() < 5 {
+            return Err(WrongLength);
+        }
+        Ok(CommandRequest::fields(payload))
+    }
+
+    // The fields of a payload of any length, by their places: a byte that is not there is 0.
+    pub fn fields(payload: &[u8]) -> CommandRequest
+        ensures { result ≡ command_request_in payload.now }
+    {
         let unknown = [
             byte_at(payload, 0),
             byte_at(payload, 1),
@@ -67,12 +44,11 @@ impl CommandRequest {
         ];
         let packet_type = PacketType(byte_at(payload, 3));
         let sequence_number = CommandSequenceNumber(byte_at(payload, 4));
-        let request = CommandRequest {
+        CommandRequest {
             unknown,
             packet_type,
             sequence_number,
-        };
-        ReadCommandRequest { length, request }
+        }
     }
 }
 
@@ -86,32 +62,33 @@ pub struct CommandResponse {
     pub command_sequence_number: CommandSequenceNumber,
 }
 
-// What `CommandResponse::read` gives. Where the length is wrong, a byte that is not there is 0.
-#[derive(Clone, Copy)]
-pub struct ReadCommandResponse {
-    pub length: Length,
-    pub response: CommandResponse,
-}
-
 impl CommandResponse {
-    // The response that a payload of at least 5 bytes starts with.
-    pub fn read(payload: &[u8]) -> ReadCommandResponse
-        ensures { result ≡ record { length = at_least command_response_length payload.now; response = command_response_in payload.now } }
+    // The response that a payload starts with. Refused by 21 if under 5 bytes.
+    pub fn read(payload: &[u8]) -> Result<CommandResponse, WrongLength>
+        ensures { result ≡ at_least command_response_length payload.now (command_response_in payload.now) }
     {
-        let length = least_length(payload, 5);
+        if payload.len() < 5 {
+            return Err(WrongLength);
+        }
+        Ok(CommandResponse::fields(payload))
+    }
+
+    // The fields of a payload of any length, by their places: a byte that is not there is 0.
+    pub fn fields(payload: &[u8]) -> CommandResponse
+        ensures { result ≡ command_response_in payload.now }
+    {
         let unknown_1 = byte_at(payload, 0);
         let tx_buffers_free = byte_at(payload, 1);
         let unknown_2 = byte_at(payload, 2);
         let packet_type = PacketType(byte_at(payload, 3));
         let command_sequence_number = CommandSequenceNumber(byte_at(payload, 4));
-        let response = CommandResponse {
+        CommandResponse {
             unknown_1,
             tx_buffers_free,
             unknown_2,
             packet_type,
             command_sequence_number,
-        };
-        ReadCommandResponse { length, response }
+        }
     }
 }
 
@@ -123,28 +100,30 @@ pub struct ReceiveRequest {
     pub unknown_2: u8,
 }
 
-// What `ReceiveRequest::read` gives. Where the length is wrong, a byte that is not there is 0.
-#[derive(Clone, Copy)]
-pub struct ReadReceiveRequest {
-    pub length: Length,
-    pub request: ReceiveRequest,
-}
-
 impl ReceiveRequest {
-    // The request that a payload of exactly 5 bytes is.
-    pub fn read(payload: &[u8]) -> ReadReceiveRequest
-        ensures { result ≡ record { length = exactly receive_request_length payload.now; request = receive_request_in payload.now } }
+    // The request that a payload is. Refused by 21 if not of 5 bytes.
+    pub fn read(payload: &[u8]) -> Result<ReceiveRequest, WrongLength>
+        ensures { result ≡ exactly receive_request_length payload.now (receive_request_in payload.now) }
     {
-        let length = exact_length(payload, 5);
+        if payload.len() != 5 {
+            return Err(WrongLength);
+        }
+        Ok(ReceiveRequest::fields(payload))
+    }
+
+    // The fields of a payload of any length, by their places: a byte that is not there is 0.
+    pub fn fields(payload: &[u8]) -> ReceiveRequest
+        ensures { result ≡ receive_request_in payload.now }
+    {
         let unknown_1 = [byte_at(payload, 0), byte_at(payload, 1)];
-        let packet_number = PacketNumber(be16(byte_at(payload, 2), byte_at(payload, 3)));
+        let number = [byte_at(payload, 2), byte_at(payload, 3)];
+        let packet_number = PacketNumber(u16::from_be_bytes(number));
         let unknown_2 = byte_at(payload, 4);
-        let request = ReceiveRequest {
+        ReceiveRequest {
             unknown_1,
             packet_number,
             unknown_2,
-        };
-        ReadReceiveRequest { length, request }
+        }
     }
 }
 
@@ -155,35 +134,36 @@ pub struct IdentifyResponse {
     pub gateway_address: [u8; 2],
 }
 
-// What `IdentifyResponse::read` gives. Where the length is wrong, a byte that is not there is 0.
-#[derive(Clone, Copy)]
-pub struct ReadIdentifyResponse {
-    pub length: Length,
-    pub response: IdentifyResponse,
-}
+// An address in a payload names no gateway, since its direction is From: the refusal 28 of an enumeration start.
+#[derive(Clone, Copy, PartialEq, Eq)]
+pub struct NamesFrom;
 
-// The gateway that an address in a payload names, or none: its direction is From.
-#[derive(Clone, Copy)]
-pub enum Named {
-    Gateway(GatewayID),
-    FromAddress,
-}
-
-fn gateway_in(address: [u8; 2]) -> Named
+// The gateway that an address in a payload names.
+#[tactic(auto, unfolding(crate::specs::Layouts::named_of))]
+fn gateway_in(address: [u8; 2]) -> Result<GatewayID, NamesFrom>
     ensures { result ≡ named_of address }
 {
     match Address::from_be_bytes(address) {
-        Address::From(_) => Named::FromAddress,
-        Address::To(id) => Named::Gateway(id),
+        Address::From(_) => Err(NamesFrom),
+        Address::To(id) => Ok(id),
     }
 }
 
 impl IdentifyResponse {
-    // The response that a payload of exactly 10 bytes is.
-    pub fn read(payload: &[u8]) -> ReadIdentifyResponse
-        ensures { result ≡ record { length = exactly identify_response_length payload.now; response = identify_response_in payload.now } }
+    // The response that a payload is. Refused by 21 if not of 10 bytes.
+    pub fn read(payload: &[u8]) -> Result<IdentifyResponse, WrongLength>
+        ensures { result ≡ exactly identify_response_length payload.now (identify_response_in payload.now) }
     {
-        let length = exact_length(payload, 10);
+        if payload.len() != 10 {
+            return Err(WrongLength);
+        }
+        Ok(IdentifyResponse::fields(payload))
+    }
+
+    // The fields of a payload of any length, by their places: a byte that is not there is 0.
+    pub fn fields(payload: &[u8]) -> IdentifyResponse
+        ensures { result ≡ identify_response_in payload.now }
+    {
         let long = [
             byte_at(payload, 0),
             byte_at(payload, 1),
@@ -196,19 +176,17 @@ impl IdentifyResponse {
         ];
         let pv_long_address = LongAddress(long);
         let gateway_address = [byte_at(payload, 8), byte_at(payload, 9)];
-        let response = IdentifyResponse {
+        IdentifyResponse {
             pv_long_address,
             gateway_address,
-        };
-        ReadIdentifyResponse { length, response }
+        }
     }
 
     // The gateway that the response names.
-    pub fn gateway_id(self) -> Named
+    pub fn gateway_id(self) -> Result<GatewayID, NamesFrom>
         ensures { result ≡ named_of self.gateway_address }
     {
-        let address = self.gateway_address;
-        gateway_in(address)
+        gateway_in(self.gateway_address)
     }
 }
 
@@ -219,19 +197,21 @@ pub struct EnumerationStartRequest {
     pub enumeration_address: [u8; 2],
 }
 
-// What `EnumerationStartRequest::read` gives. Where the length is wrong, a byte that is not there is 0.
-#[derive(Clone, Copy)]
-pub struct ReadEnumerationStartRequest {
-    pub length: Length,
-    pub request: EnumerationStartRequest,
-}
-
 impl EnumerationStartRequest {
-    // The request that a payload of exactly 6 bytes is.
-    pub fn read(payload: &[u8]) -> ReadEnumerationStartRequest
-        ensures { result ≡ record { length = exactly enumeration_start_request_length payload.now; request = enumeration_start_request_in payload.now } }
+    // The request that a payload is. Refused by 21 if not of 6 bytes.
+    pub fn read(payload: &[u8]) -> Result<EnumerationStartRequest, WrongLength>
+        ensures { result ≡ exactly enumeration_start_request_length payload.now (enumeration_start_request_in payload.now) }
     {
-        let length = exact_length(payload, 6);
+        if payload.len() != 6 {
+            return Err(WrongLength);
+        }
+        Ok(EnumerationStartRequest::fields(payload))
+    }
+
+    // The fields of a payload of any length, by their places: a byte that is not there is 0.
+    pub fn fields(payload: &[u8]) -> EnumerationStartRequest
+        ensures { result ≡ enumeration_start_request_in payload.now }
+    {
         let unknown = [
             byte_at(payload, 0),
             byte_at(payload, 1),
@@ -239,18 +219,16 @@ impl EnumerationStartRequest {
             byte_at(payload, 3),
         ];
         let enumeration_address = [byte_at(payload, 4), byte_at(payload, 5)];
-        let request = EnumerationStartRequest {
+        EnumerationStartRequest {
             unknown,
             enumeration_address,
-        };
-        ReadEnumerationStartRequest { length, request }
+        }
     }
 
     // The gateway that is to be enumerated with. A From address is refused by 28.
-    pub fn enumeration_gateway_id(self) -> Named
+    pub fn enumeration_gateway_id(self) -> Result<GatewayID, NamesFrom>
         ensures { result ≡ named_of self.enumeration_address }
     {
-        let address = self.enumeration_address;
-        gateway_in(address)
+        gateway_in(self.enumeration_address)
     }
 }

@@ -2,64 +2,50 @@
 // and says so.
 #![tactic(auto)]
 
-use books::Telling;
-use console::Source;
+use console::{Failure, Program, Source};
 use link_receive::Receiver;
-use std::io::{Error, Result};
+
+const LEDGER: Program<'static> = Program {
+    name: "ledger",
+    own: "",
+    usage: "usage: ledger [FILE]",
+    help: "Prints the ledger of FILE, nine counts. No FILE, or -, is standard input.",
+};
 
 // Prints the ledger, and tells whether that went well.
-fn print(rt: &HostRuntime, r: Receiver) -> Result<()> {
-    let Telling::So(l) = books::told(r) else {
+fn print(rt: &HostRuntime, r: Receiver) -> Result<(), Failure> {
+    let Ok(l) = books::told(r) else {
         return Ok(());
     };
-    console::print_ledger(rt, l)
+    console::print_ledger(rt, l)?;
+    Ok(())
 }
 
-// What is left to do after the last read: `some` is whether any byte came, `failed` whether that read failed, and why.
-fn finish(rt: &HostRuntime, name: &[u8], r: Receiver, some: bool, failed: Option<Error>) {
-    if some || failed.is_none() {
-        if let Err(why) = print(rt, r) {
-            console::fail_output(rt, b"ledger", why);
-            return;
-        }
-    }
-    if let Some(why) = failed {
-        console::fail(rt, b"ledger", name, why);
-    }
-}
-
-// Takes blocks to the input's end, with turns that are counted down (`turns_left` of crates/console says why).
-fn read_all(rt: &HostRuntime, mut from: Source, name: &[u8]) {
-    let mut space = io::large_buffer();
-    let buf: &mut [u8] = &mut space;
+// Takes blocks to the input's end.
+fn read_all(rt: &HostRuntime, source: &mut Source) -> Result<(), Failure> {
+    let mut buf = io::large_buffer();
     let mut r = Receiver::new();
-    let mut turns = u64::MAX;
-    while turns > 0 {
-        turns -= 1;
-        let b = console::read_block(&mut from, buf);
-        let n = b.len;
-        if n == 0 {
-            finish(rt, name, r, turns < u64::MAX - 1, b.failed);
-            return;
+    for turn in 0..u64::MAX {
+        match source.read_block(&mut buf) {
+            Ok(0) => return print(rt, r),
+            Ok(n) => r = books::absorb(r, &buf[..n]).next,
+            Err(why) => {
+                if turn > 0 {
+                    print(rt, r)?;
+                }
+                return Err(Failure::Input(why));
+            }
         }
-        let x = books::absorb(r, &buf[..n]);
-        let next = x.next;
-        r = next;
     }
+    Ok(())
 }
 
 fn main(rt: HostRuntime) {
     let mut space = io::buffer();
-    let i = console::start(
-        &rt,
-        b"ledger",
-        b"",
-        b"usage: ledger [FILE]\n",
-        b"Prints the ledger of FILE, nine counts. No FILE, or -, is standard input.\n",
-        &mut space,
-    );
-    let n = i.len;
-    if i.ready {
-        read_all(&rt, i.from, &space[..n]);
+    let Some(mut input) = LEDGER.start(&rt, &mut space) else {
+        return;
+    };
+    if let Err(failure) = read_all(&rt, &mut input.source) {
+        LEDGER.tell(&rt, input.name, failure);
     }
 }

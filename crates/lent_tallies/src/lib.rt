@@ -14,14 +14,7 @@ use link_receive::{Receiver, Stepped, Tallies};
 fn with(r: Receiver, t: Tallies) -> Receiver
     ensures { result ≡ lent_to r t }
 {
-    let state = r.state;
-    let body = r.body;
-    Receiver {
-        state: state,
-        body: body,
-        len: r.len,
-        tallies: t,
-    }
+    Receiver { tallies: t, ..r }
 }
 
 // One byte, by value: the receiver's own tallies give way to those beside it.

@@ -1,22 +1,24 @@
 -- What `encode` hands back, in 01's numbers and values, and what it writes, over any check. Assumes nothing.
-use Rattle.std.specs.Prelude.{ℕ, ◌+◌, List, [], ◌∷◌, length, ltb}
+use Rattle.std.specs.Prelude.{ℕ, ◌+◌, List, [], ◌∷◌, length, ltb, Result}
 use Rattle.std.proofs.Math.Seq.{paste}
 use Rattle.laws.specs.Bytes.{laid_if}
 use Rattle.laws.specs.Handed.{Handed, value}
-use Rattle.laws.specs.Numbers.{refused_as, row, judged, too_long, no_room, invalid_id}
+use Rattle.laws.specs.Numbers.{Refusal, handed_by, row, judged, too_long, no_room, invalid_id}
 use Rattle.address.specs.Address.{id_limit, gateway_of}
 use Rattle.address.specs.declared.Address.{Address}
 use Rattle.link.specs.Wire.{Frame, end, payload_limit, encoded_of}
-use Rattle.link.specs.declared.Encoded.{Encoded}
-use Rattle.link.specs.declared.Encoded.TheVariants.{Written, InvalidID, TooLong, NoRoom}
+use Rattle.link.specs.declared.EncodeError.{EncodeError}
+use Rattle.link.specs.declared.EncodeError.TheVariants.{InvalidGatewayID, TooLong, NoRoom}
 
--- 01, "Numbers handed back", 13: gateway ID above 7fff; 10: encode: payload over 250; 11: encode: room below the exact length; else how many
--- bytes were written
-abbrev pub handed : Encoded → Handed ℕ
-handed (Written n) = value n
-handed InvalidID = refused_as invalid_id
-handed TooLong = refused_as too_long
-handed NoRoom = refused_as no_room
+-- 01, "Numbers handed back", 13: gateway ID above 7fff; 10: encode: payload over 250; 11: encode: room below the exact length
+abbrev pub refusal_of : EncodeError → Refusal
+refusal_of InvalidGatewayID = invalid_id
+refusal_of TooLong = too_long
+refusal_of NoRoom = no_room
+
+-- .. else how many bytes were written
+abbrev pub handed : Result ℕ EncodeError → Handed ℕ
+handed = handed_by refusal_of
 
 -- 01, "Numbers handed back", 11: room below the exact length
 abbrev pub written_handed : List ℕ → ℕ → Handed ℕ

@@ -5,14 +5,17 @@ ghost use Rattle.std.specs.Prelude.{◌≡◌, ◌++◌, ◌+◌, ◌≤◌, len
 ghost use Rattle.laws.specs.Bytes.{laid_over};
 ghost use Rattle.crc.specs.Crc.{crc_of};
 ghost use Rattle.link.specs.Wire.{frame_at, start_of, wire_of, body_of, body_limit};
-ghost use Rattle.link.specs.Handed.{handed, written_handed, written_bytes, numbered_handed, numbered_bytes, encode_handed, encode_bytes, bracketed};
+ghost use Rattle.laws.specs.Numbers.{KeepsNumber};
+ghost use Rattle.address.specs.Handed.{refusal_of as address_refusal};
+ghost use Rattle.escaping.specs.Handed.{refusal_of as escape_refusal};
+ghost use Rattle.link.specs.Handed.{refusal_of, handed, written_handed, written_bytes, numbered_handed, numbered_bytes, encode_handed, encode_bytes, bracketed};
 
-use address::{Address, Numbered};
-use escaping::Escaped;
+use address::{Address, InvalidGatewayID};
+use escaping::EscapeError;
 use words::{copy_in, high, low};
 
 // A link layer frame type.
-#[derive(Clone, Copy)]
+#[derive(Clone, Copy, PartialEq, Eq)]
 pub struct Type(pub u16);
 
 impl Type {
@@ -56,13 +59,31 @@ impl Type {
 // The longest payload of a frame: its body of 256 bytes less address, type and check.
 pub const PAYLOAD_LIMIT: usize = 250;
 
-// What `encode` gives: how many bytes it wrote, or the refusals 13, 10 and 11.
-#[derive(Clone, Copy)]
-pub enum Encoded {
-    Written(usize),
-    InvalidID,
+// The refusals of `encode`: 13, 10 and 11.
+#[derive(Clone, Copy, PartialEq, Eq)]
+pub enum EncodeError {
+    InvalidGatewayID,
     TooLong,
     NoRoom,
+}
+
+impl From<InvalidGatewayID> for EncodeError {
+    ghost from_gives = { KeepsNumber address_refusal refusal_of };
+
+    fn from(_e: InvalidGatewayID) -> EncodeError {
+        EncodeError::InvalidGatewayID
+    }
+}
+
+impl From<EscapeError> for EncodeError {
+    ghost from_gives = { KeepsNumber escape_refusal refusal_of };
+
+    fn from(e: EscapeError) -> EncodeError {
+        match e {
+            EscapeError::TooLong => EncodeError::TooLong,
+            EscapeError::NoRoom => EncodeError::NoRoom,
+        }
+    }
 }
 
 // Lays address, type, payload and their check over the start of `body`.
@@ -91,28 +112,23 @@ fn bracket(start: &[u8], m: usize, out: &mut [u8])
 }
 
 // Writes a start sequence, the escaped body and the end sequence. Refused by 11, with `out` as it was.
-fn enclose(start: &[u8], body: &[u8], out: &mut [u8]) -> Encoded
+fn enclose(start: &[u8], body: &[u8], out: &mut [u8]) -> Result<usize, EncodeError>
     requires { (length start.now ≤ 5) × (length body.now ≤ body_limit) }
     ensures answer { handed result ≡ written_handed (wire_of start.now body.now) (length out.old) }
     ensures bytes { out.new ≡ written_bytes (wire_of start.now body.now) out.old }
 {
     let k = start.len();
     if out.len() < k + 2 {
-        return Encoded::NoRoom;
+        return Err(EncodeError::NoRoom);
     }
     let e = out.len() - 2;
-    match escaping::escape(body, &mut out[k..e]) {
-        Escaped::Written(m) => {
-            bracket(start, m, out);
-            Encoded::Written(k + m + 2)
-        }
-        Escaped::NoRoom => Encoded::NoRoom,
-        Escaped::TooLong => Encoded::TooLong,
-    }
+    let m = escaping::escape(body, &mut out[k..e])?;
+    bracket(start, m, out);
+    Ok(k + m + 2)
 }
 
 // Writes a body behind the start sequence of its address. Refused by 11, with `out` as it was.
-fn write_body(number: u16, body: &[u8], out: &mut [u8]) -> Encoded
+fn write_body(number: u16, body: &[u8], out: &mut [u8]) -> Result<usize, EncodeError>
     requires { length body.now ≤ body_limit }
     ensures answer { handed result ≡ written_handed (wire_of (start_of number) body.now) (length out.old) }
     ensures bytes { out.new ≡ written_bytes (wire_of (start_of number) body.now) out.old }
@@ -127,13 +143,18 @@ fn write_body(number: u16, body: &[u8], out: &mut [u8]) -> Encoded
 }
 
 // `encode` for an address that is good, by its 16 bits.
-fn encode_numbered(number: u16, frame_type: u16, payload: &[u8], out: &mut [u8]) -> Encoded
+fn encode_numbered(
+    number: u16,
+    frame_type: u16,
+    payload: &[u8],
+    out: &mut [u8],
+) -> Result<usize, EncodeError>
     ensures answer { handed result ≡ numbered_handed crc_of (frame_at number frame_type payload.now) (length out.old) }
     ensures bytes { out.new ≡ numbered_bytes crc_of (frame_at number frame_type payload.now) out.old }
 {
     let n = payload.len();
     if PAYLOAD_LIMIT < n {
-        return Encoded::TooLong;
+        return Err(EncodeError::TooLong);
     }
     let mut body = [0u8; 256];
     assemble(&mut body, number, frame_type, payload);
@@ -142,13 +163,15 @@ fn encode_numbered(number: u16, frame_type: u16, payload: &[u8], out: &mut [u8])
 }
 
 // Encodes a frame for the line, with its preamble, to the start of `out`. Refused by 13, then 10, then 11; a refusal leaves `out` as it was.
-pub fn encode(address: Address, frame_type: Type, payload: &[u8], out: &mut [u8]) -> Encoded
+pub fn encode(
+    address: Address,
+    frame_type: Type,
+    payload: &[u8],
+    out: &mut [u8],
+) -> Result<usize, EncodeError>
     ensures answer { handed result ≡ encode_handed crc_of address frame_type.0 payload.now (length out.old) }
     ensures bytes { out.new ≡ encode_bytes crc_of address frame_type.0 payload.now out.old }
 {
-    let bits = frame_type.0;
-    match address.to_u16() {
-        Numbered::Number(number) => encode_numbered(number, bits, payload, out),
-        Numbered::Invalid => Encoded::InvalidID,
-    }
+    let number = u16::try_from(address)?;
+    encode_numbered(number, frame_type.0, payload, out)
 }

@@ -1,15 +1,14 @@
 -- The drained run: cuts make no difference, and a feeding, then the run of what it left, is the run; over any check. Assumes nothing.
-use Rattle.std.proofs.Common.{◌≡◌, ℕ, suc, ◌+◌, ◌<◌, ◌≤◌, Bool, true, false, cond, List, [], ◌∷◌, ◌++◌, length, take, drop, set, refl, ap, ◌∙◌, append_assoc, arith, length-set, drop-drop, ltb-false, ltb-true, le-ltb}
+use Rattle.std.proofs.Common.{◌≡◌, ℕ, suc, ◌+◌, ◌<◌, ◌≤◌, Bool, true, false, cond, Option, Some, None, Result, Ok, Err, List, [], ◌∷◌, ◌++◌, length, take, drop, set, refl, ap, ◌∙◌, append_assoc, arith, length-set, drop-drop, ltb-false, ltb-true, le-ltb}
 use Rattle.link_receive.specs.declared.State.TheVariants as state
 use Rattle.link_receive.specs.declared.Move.{Move}
 use Rattle.link_receive.specs.declared.Move.TheVariants.{To, Push, Count, Break, Close}
-use Rattle.link_receive.specs.declared.Parsed.{Parsed}
-use Rattle.link_receive.specs.declared.Parsed.TheVariants.{Sound, Dropped}
-use Rattle.link_receive.specs.declared.Answer.{Answer}
-use Rattle.link_receive.specs.declared.Answer.TheVariants.{Nothing, Frame, Refused}
+use Rattle.link_receive.specs.declared.Tally.{Tally}
+use Rattle.link_receive.specs.declared.Head.{Head}
 use Rattle.link_receive.specs.declared.Receiver.{Receiver}
 use Rattle.link_receive.specs.declared.Stepped.{Stepped}
 use Rattle.link_feed.specs.declared.Fed.{Fed}
+use Rattle.link_receive.specs.Frames.{Answered}
 use Rattle.link_receive.specs.Step.{rules_of, too_long, Within, turn_of, closed_of, parsed_of, moved_of, refused_of, quiet, step_of}
 use Rattle.link_feed.specs.Feed.{fed_on, feed_from, feed_of}
 use Rattle.link_feed.specs.Drain.{frames_fed, drain_of, frames_of, extend_of}
@@ -18,8 +17,8 @@ use Rattle.link_receive.proofs.Turns.{turn_of-push}
 use Rattle.link_receive.proofs.Steps.{step_of-within, step_of-over}
 use Rattle.link_feed.proofs.Feeds.{feed_of-over, feed_of-within}
 
-no-refusal : Nothing ≡ Refused → ⊥
-no-refusal e = let z : ◌≡◌ {A = ℕ} 0 1 = cc in omega arith
+no-refusal : (a : Option Head) → ◌≡◌ {A = Answered} (Ok a) (Err (record {})) → ⊥
+no-refusal a e = let z : ◌≡◌ {A = ℕ} 0 1 = cc in omega arith
 
 module _ (check : List ℕ → ℕ) where
   -- cuts make no difference
@@ -37,17 +36,17 @@ module _ (check : List ℕ → ℕ) where
   pub record Steady (r : Receiver) (x : Stepped) : Type 0 where
     pub within : Within x.next
     pub sized : length x.next.body ≡ length r.body
-    pub answers : x.answer ≡ Refused → ⊥
+    pub answers : x.answer ≡ Err (record {}) → ⊥
 
-  closed_of-steady : (r : Receiver) (p : Parsed) → Steady r (closed_of r p)
-  closed_of-steady r (Sound address t) = record { within = omega arith; sized = refl; answers = λ e. let z : ◌≡◌ {A = ℕ} 0 1 = cc in omega arith }
-  closed_of-steady r (Dropped x) = record { within = omega arith; sized = refl; answers = no-refusal }
+  closed_of-steady : (r : Receiver) (p : Result Head Tally) → Steady r (closed_of r p)
+  closed_of-steady r (Ok h) = record { within = omega arith; sized = refl; answers = no-refusal (Some h) }
+  closed_of-steady r (Err x) = record { within = omega arith; sized = refl; answers = no-refusal None }
 
   moved_of-steady : (r : Receiver) (b : ℕ) (m : Move) → Within r → turn_of (rules_of r) r.state r.len b ≡ m → Steady r (moved_of check r m)
-  moved_of-steady r b (To s) h e = record { within = rw (rules_of-made r s r.body r.len r.tallies) h; sized = refl; answers = no-refusal }
-  moved_of-steady r b (Push d) h e = record { within = rw (rules_of-made r state.Frame (set r.body r.len d) (r.len + 1) r.tallies) (omega (arith, turn_of-push (rules_of r) r.state r.len b d e)); sized = simp length-set; answers = no-refusal }
-  moved_of-steady r b (Count x s) h e = record { within = omega arith; sized = refl; answers = no-refusal }
-  moved_of-steady r b Break h e = record { within = omega arith; sized = refl; answers = no-refusal }
+  moved_of-steady r b (To s) h e = record { within = rw (rules_of-made r s r.body r.len r.tallies) h; sized = refl; answers = no-refusal None }
+  moved_of-steady r b (Push d) h e = record { within = rw (rules_of-made r state.Frame (set r.body r.len d) (r.len + 1) r.tallies) (omega (arith, turn_of-push (rules_of r) r.state r.len b d e)); sized = simp length-set; answers = no-refusal None }
+  moved_of-steady r b (Count x s) h e = record { within = omega arith; sized = refl; answers = no-refusal None }
+  moved_of-steady r b Break h e = record { within = omega arith; sized = refl; answers = no-refusal None }
   moved_of-steady r b Close h e = closed_of-steady r (parsed_of check (take r.len r.body))
 
   pub step_of-steady : (r : Receiver) (b : ℕ) → Within r → Steady r (step_of check r b)
@@ -61,15 +60,15 @@ module _ (check : List ℕ → ℕ) where
     some : 0 < length s → 0 < more
     within : Within f.next
     sized : length f.next.body ≡ length r.body
-    all : f.answer ≡ Nothing → more ≡ length s
-    answers : f.answer ≡ Refused → ⊥
+    all : f.answer ≡ Ok None → more ≡ length s
+    answers : f.answer ≡ Err (record {}) → ⊥
     drained : drain_of check r s ≡ drain_of check f.next (drop more s)
     handed : frames_of check r s ≡ frames_fed f ++ frames_of check f.next (drop more s)
 
   module _ (r : Receiver) (b : ℕ) (bs : List ℕ) (n : ℕ) (h : Within r) where
-    then-step : (a : Answer) → (step_of check r b).answer ≡ a → (g : Fed) → Then (step_of check r b).next bs (n + 1) g → Then r (b ∷ bs) n (fed_on a (step_of check r b).next n g)
+    then-step : (a : Answered) → (step_of check r b).answer ≡ a → (g : Fed) → Then (step_of check r b).next bs (n + 1) g → Then r (b ∷ bs) n (fed_on a (step_of check r b).next n g)
     unfolding drain_of frames_of
-    then-step Nothing e g i =
+    then-step (Ok None) e g i =
         record {
           more = suc i.more;
           taken = omega (arith, i.taken);
@@ -82,7 +81,7 @@ module _ (check : List ℕ → ℕ) where
           drained = i.drained;
           handed = rw e i.handed;
         }
-    then-step (Frame address t len) e g i =
+    then-step (Ok (Some x)) e g i =
         record {
           more = 1;
           taken = refl;
@@ -91,11 +90,11 @@ module _ (check : List ℕ → ℕ) where
           within = (step_of-steady r b h).within;
           sized = (step_of-steady r b h).sized;
           all = λ z. cc;
-          answers = λ z. let y : ◌≡◌ {A = ℕ} 0 1 = cc in omega arith;
+          answers = no-refusal (Some x);
           drained = refl;
           handed = rw e;
         }
-    then-step Refused e g i = absurd ((step_of-steady r b h).answers e)
+    then-step (Err x) e g i = absurd ((step_of-steady r b h).answers e)
 
   then-feed : (s : List ℕ) (r : Receiver) (n : ℕ) → Within r → Then r s n (feed_from check r s n)
   unfolding feed_from drain_of frames_of
@@ -108,7 +107,7 @@ module _ (check : List ℕ → ℕ) where
         within = h;
         sized = refl;
         all = λ z. refl;
-        answers = no-refusal;
+        answers = no-refusal None;
         drained = refl;
         handed = refl;
       }
@@ -122,8 +121,8 @@ module _ (check : List ℕ → ℕ) where
     pub some : 0 < length s → 0 < f.taken
     pub within : Within f.next
     pub sized : length f.next.body ≡ length r.body
-    pub all : f.answer ≡ Nothing → f.taken ≡ length s
-    pub answers : f.answer ≡ Refused → ⊥
+    pub all : f.answer ≡ Ok None → f.taken ≡ length s
+    pub answers : f.answer ≡ Err (record {}) → ⊥
     pub drained : drain_of check r s ≡ drain_of check f.next (drop f.taken s)
     pub handed : frames_of check r s ≡ frames_fed f ++ frames_of check f.next (drop f.taken s)
 

@@ -1,8 +1,6 @@
 -- Feeding from a place of a slice; over any check. Assumes nothing.
-use Rattle.std.proofs.Common.{◌≡◌, ℕ, ◌+◌, ◌<◌, ◌≤◌, List, length, get_or, drop, add-one, drop_of_length-le, drop-cons, le-ltb, lt-ltb}
-use Rattle.address.specs.declared.Address.{Address}
-use Rattle.link.specs.declared.«Type».{«Type»}
-use Rattle.link_receive.specs.declared.Answer.TheVariants.{Nothing, Frame, Refused}
+use Rattle.std.proofs.Common.{◌≡◌, ℕ, ◌+◌, ◌<◌, ◌≤◌, Some, None, Ok, Err, List, length, get_or, drop, add-one, drop_of_length-le, drop-cons, le-ltb, lt-ltb}
+use Rattle.link_receive.specs.declared.Head.{Head}
 use Rattle.link_receive.specs.declared.Receiver.{Receiver}
 use Rattle.link_receive.specs.Step.{rules_of, Within, quiet, step_of}
 use Rattle.link_feed.specs.Feed.{stopped, feed_from, feed_of}
@@ -17,18 +15,18 @@ module _ (check : List ℕ → ℕ) where
 
   -- after a frame it stops
   pub feed_from-frame :
-      (r q : Receiver) (s : List ℕ) (i : ℕ) (address : Address) (t : «Type») (n : ℕ) → i < length s →
-      step_of check r (get_or s i 0) ≡ record { next = q; answer = Frame address t n } →
-      stopped q (Frame address t n) (i + 1) ≡ feed_from check r (drop i s) i
+      (r q : Receiver) (s : List ℕ) (i : ℕ) (x : Head) → i < length s →
+      step_of check r (get_or s i 0) ≡ record { next = q; answer = Ok (Some x) } →
+      stopped q (Ok (Some x)) (i + 1) ≡ feed_from check r (drop i s) i
   unfolding feed_from
-  feed_from-frame r q s i address t n h e = rw (drop-cons s i 0 h, e)
+  feed_from-frame r q s i x h e = rw (drop-cons s i 0 h, e)
 
   -- at the end it stops
-  pub feed_from-end : (r : Receiver) (s : List ℕ) (i : ℕ) → length s ≤ i → stopped r Nothing i ≡ feed_from check r (drop i s) i
+  pub feed_from-end : (r : Receiver) (s : List ℕ) (i : ℕ) → length s ≤ i → stopped r (Ok None) i ≡ feed_from check r (drop i s) i
   unfolding feed_from
   feed_from-end r s i h = rw (drop_of_length-le s h)
 
-  pub feed_of-over : (r : Receiver) (s : List ℕ) → (rules_of r).limit < r.len → feed_of check r s ≡ stopped r Refused 0
+  pub feed_of-over : (r : Receiver) (s : List ℕ) → (rules_of r).limit < r.len → feed_of check r s ≡ stopped r (Err (record {})) 0
   unfolding feed_of
   feed_of-over r s h = rw (lt-ltb (rules_of r).limit r.len h)
 

@@ -1,26 +1,24 @@
 -- A slice gone through, up to its first frame or through all of them: going on from behind some bytes ends as from here; over any check. Assumes nothing.
-use Rattle.std.proofs.Common.{◌≡◌, ℕ, ◌≤◌, Bool, true, false, List, length, drop, sym, refl, ap, ◌∙◌, arith, drop_of_length-le}
+use Rattle.std.proofs.Common.{◌≡◌, ℕ, ◌≤◌, Bool, true, false, ◌&&◌, Option, Some, None, Ok, List, length, drop, sym, refl, ap, ◌∙◌, arith, drop_of_length-le}
 use Rattle.laws.proofs.Cases.{never}
 use Rattle.link_receive.specs.declared.State.{State}
 use Rattle.link_receive.specs.declared.Tallies.{Tallies}
-use Rattle.link_receive.specs.declared.Answer.{Answer}
-use Rattle.link_receive.specs.declared.Answer.TheVariants.{Nothing, Frame, Refused}
+use Rattle.link_receive.specs.declared.Head.{Head}
 use Rattle.link_receive.specs.declared.Receiver.{Receiver}
 use Rattle.link_feed.specs.declared.Course.{Course}
 use Rattle.link_feed.specs.declared.Fed.{Fed}
-use Rattle.link_receive.specs.Step.{room, made_of, Within}
+use Rattle.link_receive.specs.Step.{made_of, Within}
 use Rattle.link_receive.proofs.Rules.{rules_of-made}
 use Rattle.link_feed.specs.Feed.{stopped, feed_from}
 use Rattle.link_feed.specs.Drain.{drain_of}
-use Rattle.link_feed.specs.Advance.{stops_at, went_of, Led, Onward}
+use Rattle.std.specs.Option.{is_some}
+use Rattle.link_feed.specs.Advance.{went_of, Led, Onward}
 use Rattle.link_feed.proofs.Feeds.{feed_from-end}
 use Rattle.link_feed.proofs.Drains.{drain_of-from}
 
--- an answer that is something stops a feeding that is to stop: `stops` cites this
-pub stops_at-some : (a : Answer) (stop : Bool) → (a ≡ Nothing → ⊥) → stop ≡ stops_at a stop
-stops_at-some Nothing stop h = absurd (h refl)
-stops_at-some (Frame address t n) stop h = refl
-stops_at-some Refused stop h = refl
+-- a feeding stops that is to stop at a frame: the test of `advance`
+abbrev pub stops_at : Option Head → Bool → Bool
+stops_at a stop = stop && is_some a
 
 module _ (check : List ℕ → ℕ) (s : List ℕ) where
   module _ (r : Receiver) (i : ℕ) (h : Within r) (q : Receiver) (j : ℕ) where
@@ -32,30 +30,26 @@ module _ (check : List ℕ → ℕ) (s : List ℕ) where
 
     went_of-alike : (stop : Bool) → Within q → feed_from check q (drop j s) j ≡ feed_from check r (drop i s) i → went_of check stop q s j ≡ went_of check stop r s i
     went_of-alike true l e = e
-    went_of-alike false l e = ap (λ (x : Receiver). stopped x Nothing (length s)) (drain_of-alike l e)
+    went_of-alike false l e = ap (λ (x : Receiver). stopped x (Ok None) (length s)) (drain_of-alike l e)
 
     -- behind an answer, whatever it is, the run goes on
-    drain_of-onward : (a : Answer) → Onward check s r i q a j → drain_of check q (drop j s) ≡ drain_of check r (drop i s)
-    drain_of-onward Nothing o = drain_of-alike o.within o.same
-    drain_of-onward (Frame address t n) o = sym (drain_of-from check s r i (stopped q (Frame address t n) j) h o.same)
-    drain_of-onward Refused o = sym (drain_of-from check s r i (stopped q Refused j) h o.same)
+    drain_of-onward : (a : Option Head) → Onward check s r i q a j → drain_of check q (drop j s) ≡ drain_of check r (drop i s)
+    drain_of-onward None o = drain_of-alike o.within o.same
+    drain_of-onward (Some x) o = sym (drain_of-from check s r i (stopped q (Ok (Some x)) j) h o.same)
 
-    went_of-onward : (stop : Bool) (a : Answer) → stops_at a stop ≡ false → Onward check s r i q a j → went_of check stop q s j ≡ went_of check stop r s i
-    went_of-onward true Nothing e o = o.same
-    went_of-onward true (Frame address t n) e o = never (sym e)
-    went_of-onward true Refused e o = never (sym e)
-    went_of-onward false a e o = ap (λ (x : Receiver). stopped x Nothing (length s)) (drain_of-onward a o)
+    went_of-onward : (stop : Bool) (a : Option Head) → stops_at a stop ≡ false → Onward check s r i q a j → went_of check stop q s j ≡ went_of check stop r s i
+    went_of-onward true None e o = o.same
+    went_of-onward true (Some x) e o = never (sym e)
+    went_of-onward false a e o = ap (λ (x : Receiver). stopped x (Ok None) (length s)) (drain_of-onward a o)
 
     -- and a feeding that is to stop there stops
-    went_of-stops : (stop : Bool) (a : Answer) → stops_at a stop ≡ true → Onward check s r i q a j → stopped q a j ≡ went_of check stop r s i
-    went_of-stops stop Nothing e o = never e
-    went_of-stops true (Frame address t n) e o = o.same
-    went_of-stops false (Frame address t n) e o = never e
-    went_of-stops true Refused e o = o.same
-    went_of-stops false Refused e o = never e
+    went_of-stops : (stop : Bool) (a : Option Head) → stops_at a stop ≡ true → Onward check s r i q a j → stopped q (Ok a) j ≡ went_of check stop r s i
+    went_of-stops true None e o = never e
+    went_of-stops true (Some x) e o = o.same
+    went_of-stops false a e o = never e
 
   -- at the end both have ended
-  went_of-end : (stop : Bool) (r : Receiver) (i : ℕ) → i ≡ length s → stopped r Nothing i ≡ went_of check stop r s i
+  went_of-end : (stop : Bool) (r : Receiver) (i : ℕ) → i ≡ length s → stopped r (Ok None) i ≡ went_of check stop r s i
   unfolding drain_of
   went_of-end true r i e = feed_from-end check r s i (omega arith)
   went_of-end false r i e =
@@ -66,7 +60,6 @@ module _ (check : List ℕ → ℕ) (s : List ℕ) where
   pub record Going (stop : Bool) (f : Fed) (r : Receiver) (i : ℕ) : Type 0 where
     pub inside : i ≤ length s
     pub within : Within r
-    pub sized : length r.body ≡ room
     pub same : went_of check stop r s i ≡ f
 
   module _ (stop : Bool) (f : Fed) where
@@ -79,23 +72,21 @@ module _ (check : List ℕ → ℕ) (s : List ℕ) where
         record {
           inside = a.inside;
           within = within;
-          sized = g.sized;
           same = went_of-alike (made_of r state body len t) i g.within (made_of r c.state body c.len u) c.at stop within (a.same body) ∙ g.same;
         }
 
     module _ (r : Receiver) (i : ℕ) (g : Going stop f r i) where
-      pub going-ends : length s ≤ i → stopped r Nothing i ≡ f
+      pub going-ends : length s ≤ i → stopped r (Ok None) i ≡ f
       going-ends h = went_of-end stop r i (omega (arith, g.inside)) ∙ g.same
 
-      module _ (q : Receiver) (a : Answer) (j : ℕ) (o : Onward check s r i q a j) where
-        pub going-onward : stops_at a stop ≡ false → length q.body ≡ length r.body → Going stop f q j
-        going-onward n e =
+      module _ (q : Receiver) (a : Option Head) (j : ℕ) (o : Onward check s r i q a j) where
+        pub going-onward : stops_at a stop ≡ false → Going stop f q j
+        going-onward n =
             record {
               inside = o.inside;
               within = o.within;
-              sized = e ∙ g.sized;
               same = went_of-onward r i g.within q j stop a n o ∙ g.same;
             }
 
-        pub going-stops : stops_at a stop ≡ true → stopped q a j ≡ f
+        pub going-stops : stops_at a stop ≡ true → stopped q (Ok a) j ≡ f
         going-stops n = went_of-stops r i g.within q j stop a n o ∙ g.same

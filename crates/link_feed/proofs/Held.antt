@@ -1,10 +1,10 @@
 -- The units of an open frame, many at once: feeding on from behind them is feeding from here; over any check, and over the rules of any receiver o.
 -- Assumes nothing.
-use Rattle.std.proofs.Common.{◌≡◌, ℕ, zero, suc, ◌+◌, ◌-◌, ◌<◌, ◌≤◌, true, eqb, ltb, List, length, get_or, take, drop, set, sym, refl, ap, ◌∙◌, ap₂, add-zero, le_of_lt, arith, length-set, drop-cons, ltb-false, lt-ltb}
+use Rattle.std.proofs.Common.{◌≡◌, ℕ, zero, suc, ◌+◌, ◌-◌, ◌<◌, ◌≤◌, true, eqb, ltb, Option, Some, None, List, length, get_or, take, drop, set, sym, refl, ap, ◌∙◌, ap₂, add-zero, le_of_lt, arith, drop-cons, ltb-false, lt-ltb}
 use lib.Seq.{paste}
 use borrow.Author.Tests.{not-true}
 use Rattle.byte_runs.specs.Runs.{is_of, lead, All, laid}
-use Rattle.byte_runs.proofs.Laws.{copy-room, copy-inside, copy-all, length-laid, laid-paste}
+use Rattle.byte_runs.proofs.Laws.{copy-room, copy-inside, copy-all, laid-paste}
 use Rattle.byte_runs.specs.declared.Sort.TheVariants as sort
 use Rattle.laws.proofs.Cases.{by}
 use Rattle.reading.specs.Grammar.{Rules}
@@ -20,8 +20,8 @@ use Rattle.link_receive.proofs.Steps.{step_of-made}
 use Rattle.link_feed.proofs.Feeds.{feed_from-more}
 use Rattle.escaping.specs.Escapes.{meaning}
 use Rattle.escaping.specs.Handed.{handed_byte, unescape_handed}
-use Rattle.escaping.specs.declared.Unescaped.{Unescaped}
-use Rattle.escaping.specs.declared.Unescaped.TheVariants.{Invalid}
+use Rattle.escaping.specs.declared.InvalidEscapeSequence.{InvalidEscapeSequence}
+use Rattle.std.specs.Prelude.{Result, Err}
 use Rattle.link_feed.proofs.Skips.{next, less, more}
 
 pub turn_of-unit : (rules : Rules) (len b : ℕ) → len < rules.limit → is_of sort.Raw b ≡ true → turn_of rules Frame len b ≡ Push b
@@ -35,13 +35,16 @@ turn_of-pair rules len b e = rw e
 
 -- the loop of `units` with no pair that is no unit
 abbrev pub units_at : ℕ → ℕ → Units
-units_at len i = record { len = len; at = i; code = 0 }
+units_at len i = record { len = len; at = i; code = None }
+
+no-code : (c : ℕ) → ◌≡◌ {A = Option ℕ} None (Some c) → ⊥
+no-code c e = let z : ◌≡◌ {A = ℕ} 0 1 = cc in omega arith
 
 two : (i : ℕ) → i + 2 ≡ i + 1 + 1
 two i = omega arith
 
 -- the second byte of a pair that is no unit
-invalid-code : (u : Unescaped) (b : ℕ) → handed_byte u ≡ unescape_handed b → u ≡ Invalid → 7 ≤ b
+invalid-code : (u : Result ℕ InvalidEscapeSequence) {x : InvalidEscapeSequence} (b : ℕ) → handed_byte u ≡ unescape_handed b → u ≡ Err x → 7 ≤ b
 unfolding unescape_handed meaning
 invalid-code u b e f = by (ltb b 7) (λ x. let y = rw x at e in absurd (let z : ◌≡◌ {A = ℕ} 0 1 = cc in omega arith)) (λ x. ltb-false b 7 x)
 
@@ -67,92 +70,82 @@ module _ (check : List ℕ → ℕ) (o : Receiver) (s : List ℕ) where
       ∙ feed_from-units body len t i m (le_of_lt l) (omega (arith, next i m)) (λ k u. a k (more k m u))
 
   -- units of an open frame taken so far, from a body, a length and a place: the loop of `units` keeps this
-  pub record Held (body : List ℕ) (len i : ℕ) (next : List ℕ) (p : Units) : Type 0 where
-    pub ahead : Ahead check o s body len i next p
-    pub sized : length next ≡ room
+  abbrev pub Held : List ℕ → ℕ → ℕ → List ℕ → ℕ → ℕ → Type 0
+  Held body len i next l j = Ahead check o s body len i next (units_at l j)
 
-  pub held_none : (body : List ℕ) (len i : ℕ) → len ≤ (rules_of o).limit → length body ≡ room → i ≤ length s → Held body len i body (units_at len i)
-  held_none body len i h e g = record { ahead = record { inside = g; further = omega arith; within = h; same = λ t. refl; coded = λ n. absurd (omega arith) }; sized = e }
+  pub held_none : (body : List ℕ) (len i : ℕ) → len ≤ (rules_of o).limit → i ≤ length s → Held body len i body len i
+  held_none body len i h g = record { inside = g; further = omega arith; within = h; same = λ t. refl; coded = λ c e. absurd (no-code c e) }
 
-  module _ (b₀ : List ℕ) (l₀ i₀ : ℕ) (body : List ℕ) (len i : ℕ) (held : Held b₀ l₀ i₀ body (units_at len i)) where
+  module _ (b₀ : List ℕ) (l₀ i₀ : ℕ) (body : List ℕ) (len i : ℕ) (held : Held b₀ l₀ i₀ body len i) where
     -- a run of raw bytes more, up to the array's end, where that is the limit
     pub held-run :
-        (rules_of o).limit ≡ room → (next : List ℕ) (k : ℕ) → k ≡ lead (is_of sort.Raw) (take (length body - len) (drop i s)) → next ≡ paste body len (drop i s) k →
-        Held b₀ l₀ i₀ next (units_at (len + k) (i + k))
-    held-run full next k e f =
+        (rules_of o).limit ≡ room → length body ≡ room → (next : List ℕ) (k : ℕ) → k ≡ lead (is_of sort.Raw) (take (length body - len) (drop i s)) → next ≡ paste body len (drop i s) k →
+        Held b₀ l₀ i₀ next (len + k) (i + k)
+    held-run full sized next k e f =
         let free = length body - len in
-        let here : i ≤ length s = held.ahead.inside in
+        let here : i ≤ length s = held.inside in
         let fits : k ≤ free = copy-room (is_of sort.Raw) s i free k here e in
         let inside : i + k ≤ length s = copy-inside (is_of sort.Raw) s i free k here e in
-        let within : len + k ≤ (rules_of o).limit = omega (arith, held.sized, held.ahead.within) in
-        let laid-now : next ≡ laid body len s i k = f ∙ sym (laid-paste body len s i k (omega (arith, held.sized)) inside) in
+        let within : len + k ≤ (rules_of o).limit = omega (arith, sized, held.within) in
+        let laid-now : next ≡ laid body len s i k = f ∙ sym (laid-paste body len s i k (omega (arith, sized)) inside) in
         record {
-          ahead =
-              record {
-                inside = inside;
-                further = omega (arith, held.ahead.further);
-                within = within;
-                same =
-                    λ t.
-                    ap (λ (x : List ℕ). feed_from check (made_of o Frame x (len + k) t) (drop (i + k) s) (i + k)) laid-now
-                    ∙ feed_from-units body len t i k within inside (copy-all (is_of sort.Raw) s i free k here e)
-                    ∙ held.ahead.same t;
-                coded = λ n. absurd (omega arith);
-              };
-          sized = ap length laid-now ∙ length-laid body len s i k ∙ held.sized;
+          inside = inside;
+          further = omega (arith, held.further);
+          within = within;
+          same =
+              λ t.
+              ap (λ (x : List ℕ). feed_from check (made_of o Frame x (len + k) t) (drop (i + k) s) (i + k)) laid-now
+              ∙ feed_from-units body len t i k within inside (copy-all (is_of sort.Raw) s i free k here e)
+              ∙ held.same t;
+          coded = λ c e. absurd (no-code c e);
         }
 
     -- an escape more
     pub held-escape :
         (d : ℕ) → i + 2 ≤ length s → len < (rules_of o).limit → get_or s i 0 ≡ 0x7e → turn_of (rules_of o) FrameEscape len (get_or s (i + 1) 0) ≡ Push d →
-        Held b₀ l₀ i₀ (set body len d) (units_at (len + 1) (i + 2))
+        Held b₀ l₀ i₀ (set body len d) (len + 1) (i + 2)
     held-escape d g h e f =
         record {
-          ahead =
-              record {
-                inside = g;
-                further = omega (arith, held.ahead.further);
-                within = omega arith;
-                same =
-                    λ t.
-                    let r = made_of o Frame body len t in
-                    let q = made_of o FrameEscape body len t in
-                    ap (λ (n : ℕ). feed_from check (made_of o Frame (set body len d) (len + 1) t) (drop n s) n) (two i)
-                    ∙ feed_from-more check q (made_of o Frame (set body len d) (len + 1) t) s (i + 1) (omega arith) (step_of-made check o FrameEscape body len t (get_or s (i + 1) 0) (Push d) (le_of_lt h) f)
-                    ∙ feed_from-more check r q s i (omega arith) (step_of-made check o Frame body len t (get_or s i 0) (To FrameEscape) (le_of_lt h) (turn_of-pair (rules_of o) len (get_or s i 0) e))
-                    ∙ held.ahead.same t;
-                coded = λ n. absurd (omega arith);
-              };
-          sized = simp length-set held.sized;
+          inside = g;
+          further = omega (arith, held.further);
+          within = omega arith;
+          same =
+              λ t.
+              let r = made_of o Frame body len t in
+              let q = made_of o FrameEscape body len t in
+              ap (λ (n : ℕ). feed_from check (made_of o Frame (set body len d) (len + 1) t) (drop n s) n) (two i)
+              ∙ feed_from-more check q (made_of o Frame (set body len d) (len + 1) t) s (i + 1) (omega arith) (step_of-made check o FrameEscape body len t (get_or s (i + 1) 0) (Push d) (le_of_lt h) f)
+              ∙ feed_from-more check r q s i (omega arith) (step_of-made check o Frame body len t (get_or s i 0) (To FrameEscape) (le_of_lt h) (turn_of-pair (rules_of o) len (get_or s i 0) e))
+              ∙ held.same t;
+          coded = λ c e. absurd (no-code c e);
         }
 
     -- a raw byte more
-    pub held-byte : i < length s → len < (rules_of o).limit → is_of sort.Raw (get_or s i 0) ≡ true → Held b₀ l₀ i₀ (set body len (get_or s i 0)) (units_at (len + 1) (i + 1))
+    pub held-byte : i < length s → len < (rules_of o).limit → is_of sort.Raw (get_or s i 0) ≡ true → Held b₀ l₀ i₀ (set body len (get_or s i 0)) (len + 1) (i + 1)
     held-byte g h e =
         record {
-          ahead =
-              record {
-                inside = omega arith;
-                further = omega (arith, held.ahead.further);
-                within = omega arith;
-                same =
-                    λ t.
-                    feed_from-more check (made_of o Frame body len t) (made_of o Frame (set body len (get_or s i 0)) (len + 1) t) s i g (step_of-made check o Frame body len t (get_or s i 0) (Push (get_or s i 0)) (le_of_lt h) (turn_of-unit (rules_of o) len (get_or s i 0) h e))
-                    ∙ held.ahead.same t;
-                coded = λ n. absurd (omega arith);
-              };
-          sized = simp length-set held.sized;
+          inside = omega arith;
+          further = omega (arith, held.further);
+          within = omega arith;
+          same =
+              λ t.
+              feed_from-more check (made_of o Frame body len t) (made_of o Frame (set body len (get_or s i 0)) (len + 1) t) s i g (step_of-made check o Frame body len t (get_or s i 0) (Push (get_or s i 0)) (le_of_lt h) (turn_of-unit (rules_of o) len (get_or s i 0) h e))
+              ∙ held.same t;
+          coded = λ c e. absurd (no-code c e);
         }
 
     -- the pair that is no unit, told
     pub held-coded :
-        (c : ℕ) → i + 2 ≤ length s → get_or s i 0 ≡ 0x7e → (u : Unescaped) → handed_byte u ≡ unescape_handed c → u ≡ Invalid → c ≡ get_or s (i + 1) 0 →
-        Ahead check o s b₀ l₀ i₀ body (record { len = len; at = i; code = c })
+        (c : ℕ) → i + 2 ≤ length s → get_or s i 0 ≡ 0x7e → (u : Result ℕ InvalidEscapeSequence) {x : InvalidEscapeSequence} → handed_byte u ≡ unescape_handed c → u ≡ Err x → c ≡ get_or s (i + 1) 0 →
+        Ahead check o s b₀ l₀ i₀ body (record { len = len; at = i; code = Some c })
     held-coded c g e u f n m =
         record {
-          inside = held.ahead.inside;
-          further = held.ahead.further;
-          within = held.ahead.within;
-          same = held.ahead.same;
-          coded = λ x. (invalid-code u c f n, record { whole = g; first = e; second = sym m });
+          inside = held.inside;
+          further = held.further;
+          within = held.within;
+          same = held.same;
+          coded =
+              λ d x.
+              let y : c ≡ d = cc in
+              rw (← y) (invalid-code u c f n, record { whole = g; first = e; second = sym m });
         }

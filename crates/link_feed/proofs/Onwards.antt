@@ -1,22 +1,22 @@
 -- The units of a frame with the pair that closes or breaks it, and one byte: feeding on from behind them ends as feeding from here; over any check. Assumes nothing.
-use Rattle.std.proofs.Common.{◌≡◌, ℕ, ◌+◌, ◌-◌, ◌<◌, ◌≤◌, Bool, true, false, cond, eqb, List, length, get_or, take, drop, sym, refl, ap, ◌∙◌, arith, le-ltb, ne_eqb}
+use Rattle.std.proofs.Common.{◌≡◌, ℕ, ◌+◌, ◌<◌, ◌≤◌, Bool, true, false, cond, eqb, Option, None, Result, Ok, Err, List, length, get_or, take, drop, sym, refl, ap, ◌∙◌, arith, le-ltb, ne_eqb}
 use Rattle.laws.proofs.Cases.{never}
 use Rattle.escaping.specs.Escapes.{opener, neither, meaning}
 use Rattle.reading.specs.Counters as k
 use Rattle.reading.specs.Grammar.{Rules}
 use Rattle.link_receive.specs.declared.State.TheVariants.{Noise, Frame, FrameEscape, Giant}
 use Rattle.link_receive.specs.declared.Tallies.{Tallies}
-use Rattle.link_receive.specs.declared.Answer.{Answer}
-use Rattle.link_receive.specs.declared.Answer.TheVariants as answer
 use Rattle.link_receive.specs.declared.Move.{Move}
 use Rattle.link_receive.specs.declared.Move.TheVariants.{To, Push, Count, Break, Close}
-use Rattle.link_receive.specs.declared.Parsed.{Parsed}
-use Rattle.link_receive.specs.declared.Parsed.TheVariants.{Sound, Dropped}
+use Rattle.link_receive.specs.declared.Tally.{Tally}
+use Rattle.link_receive.specs.declared.Head.{Head}
 use Rattle.link_receive.specs.declared.Receiver.{Receiver}
 use Rattle.link_receive.specs.declared.Stepped.{Stepped}
 use Rattle.link_receive.specs.Tally.{raise}
 use Rattle.link_receive.specs.Step.{made_of, rules_of, Within, escape_of, turn_of, parsed_of, moved_of, closed_of, step_of}
-use Rattle.link_feed.specs.Feed.{feed_from}
+use Rattle.link_receive.specs.Frames.{Answered}
+use Rattle.link_feed.specs.declared.Fed.{Fed}
+use Rattle.link_feed.specs.Feed.{stopped, feed_from}
 use Rattle.link_feed.specs.declared.Units.{Units}
 use Rattle.link_feed.specs.Advance.{is_outside, Stands, Ahead, Skipped, fed_by, Stretched, Onward}
 use Rattle.link_receive.proofs.Rules.{rules_of-made}
@@ -44,41 +44,46 @@ two : (i : ℕ) → i + 2 ≡ i + 1 + 1
 two i = omega arith
 
 module _ (check : List ℕ → ℕ) (s : List ℕ) where
+  -- the same as `fed_by`, of a step's answer
+  abbrev answered_by : List ℕ → Answered → Receiver → ℕ → Fed
+  answered_by s (Ok a) q j = fed_by check s a q j
+  answered_by s (Err e) q j = stopped q (Err e) j
+
   -- after what a byte asks for
   fed-moved :
       (r : Receiver) (m : Move) (i : ℕ) → i < length s → Within r → turn_of (rules_of r) r.state r.len (get_or s i 0) ≡ m →
-      fed_by check s (moved_of check r m).answer (moved_of check r m).next (i + 1) ≡ feed_from check r (drop i s) i
+      answered_by s (moved_of check r m).answer (moved_of check r m).next (i + 1) ≡ feed_from check r (drop i s) i
   fed-moved r (To x) i h g e = feed_from-more check r _ s i h (step_of-within check r (get_or s i 0) (To x) g e)
   fed-moved r (Push b) i h g e = feed_from-more check r _ s i h (step_of-within check r (get_or s i 0) (Push b) g e)
   fed-moved r (Count t x) i h g e = feed_from-more check r _ s i h (step_of-within check r (get_or s i 0) (Count t x) g e)
   fed-moved r Break i h g e = feed_from-more check r _ s i h (step_of-within check r (get_or s i 0) Break g e)
   fed-moved r Close i h g e = go (parsed_of check (take r.len r.body)) (step_of-within check r (get_or s i 0) Close g e)
     where
-      go : (p : Parsed) → step_of check r (get_or s i 0) ≡ closed_of r p → fed_by check s (closed_of r p).answer (closed_of r p).next (i + 1) ≡ feed_from check r (drop i s) i
-      go (Sound address t) f = feed_from-frame check r _ s i address t (r.len - 6) h f
-      go (Dropped x) f = feed_from-more check r _ s i h f
+      go : (p : Result Head Tally) → step_of check r (get_or s i 0) ≡ closed_of r p → answered_by s (closed_of r p).answer (closed_of r p).next (i + 1) ≡ feed_from check r (drop i s) i
+      go (Ok x) f = feed_from-frame check r _ s i x h f
+      go (Err x) f = feed_from-more check r _ s i h f
 
   -- one byte
   pub onward-one :
-      (r q : Receiver) (a : Answer) (i : ℕ) → i < length s → Within r → Within q →
-      ◌≡◌ {A = Stepped} (record { next = q; answer = a }) (step_of check r (get_or s i 0)) → Onward check s r i q a (i + 1)
+      (r q : Receiver) (a : Option Head) (i : ℕ) → i < length s → Within r → Within q →
+      ◌≡◌ {A = Stepped} (record { next = q; answer = Ok a }) (step_of check r (get_or s i 0)) → Onward check s r i q a (i + 1)
   onward-one r q a i h g l e =
       let b = get_or s i 0 in
       let m = turn_of (rules_of r) r.state r.len b in
-      let f : ◌≡◌ {A = Stepped} (record { next = q; answer = a }) (moved_of check r m) = e ∙ step_of-within check r b m g refl in
+      let f : ◌≡◌ {A = Stepped} (record { next = q; answer = Ok a }) (moved_of check r m) = e ∙ step_of-within check r b m g refl in
       record {
         inside = omega arith;
         least = omega arith;
         further = λ x. omega arith;
         within = l;
-        same = ap (λ (x : Stepped). fed_by check s x.answer x.next (i + 1)) f ∙ fed-moved r m i h g refl;
+        same = ap (λ (x : Stepped). answered_by s x.answer x.next (i + 1)) f ∙ fed-moved r m i h g refl;
       }
 
   -- the pair that ends a frame with its units before it: what the second byte asks for, and what that makes of the receiver
   module _ (o : Receiver) (body : List ℕ) (len : ℕ) (t : Tallies) (i : ℕ) (next : List ℕ) (p : Units) (a : Ahead check o s body len i next p) where
     ended :
-        (m : Move) (q : Receiver) (x : Answer) (c : ℕ) → Stands s p.at c → turn_of (rules_of o) FrameEscape p.len c ≡ m → Within q →
-        ◌≡◌ {A = Stepped} (record { next = q; answer = x }) (moved_of check (made_of o FrameEscape next p.len t) m) →
+        (m : Move) (q : Receiver) (x : Option Head) (c : ℕ) → Stands s p.at c → turn_of (rules_of o) FrameEscape p.len c ≡ m → Within q →
+        ◌≡◌ {A = Stepped} (record { next = q; answer = Ok x }) (moved_of check (made_of o FrameEscape next p.len t) m) →
         is_outside q.state ≡ true →
         Stretched check s (made_of o Frame body len t) i q x (p.at + 2)
     ended m q x c e u l f w =
@@ -92,7 +97,7 @@ module _ (check : List ℕ → ℕ) (s : List ℕ) where
           within = l;
           same =
               ap (λ (n : ℕ). fed_by check s x q n) (two p.at)
-              ∙ ap (λ (z : Stepped). fed_by check s z.answer z.next (p.at + 1 + 1)) f
+              ∙ ap (λ (z : Stepped). answered_by s z.answer z.next (p.at + 1 + 1)) f
               ∙ fed-moved y m (p.at + 1) (omega (arith, e.whole)) (rw same-rules a.within) turn
               ∙ feed_from-more check r y s p.at (omega (arith, e.whole)) (step_of-made check o Frame next p.len t (get_or s p.at 0) _ a.within (turn_of-escape (rules_of o) p.len (get_or s p.at 0) e.first))
               ∙ a.same t;
@@ -102,8 +107,8 @@ module _ (check : List ℕ → ℕ) (s : List ℕ) where
 
     -- 7e 08 closes it
     pub stretched-closer :
-        (q : Receiver) (x : Answer) (c : ℕ) → Stands s p.at c → c ≡ 0x08 → Within q →
-        ◌≡◌ {A = Stepped} (record { next = q; answer = x }) (closed_of (made_of o FrameEscape next p.len t) (parsed_of check (take p.len next))) →
+        (q : Receiver) (x : Option Head) (c : ℕ) → Stands s p.at c → c ≡ 0x08 → Within q →
+        ◌≡◌ {A = Stepped} (record { next = q; answer = Ok x }) (closed_of (made_of o FrameEscape next p.len t) (parsed_of check (take p.len next))) →
         is_outside q.state ≡ true →
         Stretched check s (made_of o Frame body len t) i q x (p.at + 2)
     stretched-closer q x c e f l g w = ended Close q x c e (turn_of-closer (rules_of o) p.len c f) l g w
@@ -111,11 +116,11 @@ module _ (check : List ℕ → ℕ) (s : List ℕ) where
     -- any other pair that is no unit breaks it
     pub stretched-breaker :
         (u : Tallies) (c : ℕ) → Stands s p.at c → 7 ≤ c → (c ≡ 0x08 → ⊥) → u ≡ raise k.noise (raise k.broken t) →
-        Stretched check s (made_of o Frame body len t) i (made_of o Noise next 0 u) answer.Nothing (p.at + 2)
-    stretched-breaker u c e h n f = ended Break (made_of o Noise next 0 u) answer.Nothing c e (turn_of-breaker (rules_of o) p.len c h n) (omega arith) (rw f) refl
+        Stretched check s (made_of o Frame body len t) i (made_of o Noise next 0 u) None (p.at + 2)
+    stretched-breaker u c e h n f = ended Break (made_of o Noise next 0 u) None c e (turn_of-breaker (rules_of o) p.len c h n) (omega arith) (rw f) refl
 
     -- no such pair: the frame stays open
-    pub stretched-open : Stretched check s (made_of o Frame body len t) i (made_of o Frame next p.len t) answer.Nothing p.at
+    pub stretched-open : Stretched check s (made_of o Frame body len t) i (made_of o Frame next p.len t) None p.at
     stretched-open =
         record {
           inside = a.inside;
@@ -127,7 +132,7 @@ module _ (check : List ℕ → ℕ) (s : List ℕ) where
         }
 
   -- what a tail skips
-  pub stretched-tail : (o : Receiver) (body : List ℕ) (len : ℕ) (t : Tallies) (i j : ℕ) → len ≤ (rules_of o).limit → Skipped check o s i j → Stretched check s (made_of o Giant body len t) i (made_of o Giant body len t) answer.Nothing j
+  pub stretched-tail : (o : Receiver) (body : List ℕ) (len : ℕ) (t : Tallies) (i j : ℕ) → len ≤ (rules_of o).limit → Skipped check o s i j → Stretched check s (made_of o Giant body len t) i (made_of o Giant body len t) None j
   stretched-tail o body len t i j l a =
       record {
         inside = a.inside;
@@ -139,11 +144,11 @@ module _ (check : List ℕ → ℕ) (s : List ℕ) where
       }
 
   -- nothing taken, where there is nothing to take outside a frame
-  pub stretched-none : (r : Receiver) (i : ℕ) → i ≤ length s → Within r → (is_outside r.state ≡ true → i ≡ length s) → Stretched check s r i r answer.Nothing i
+  pub stretched-none : (r : Receiver) (i : ℕ) → i ≤ length s → Within r → (is_outside r.state ≡ true → i ≡ length s) → Stretched check s r i r None i
   stretched-none r i h l e =
       record { inside = h; further = omega arith; within = l; same = refl; leaves = λ z n. absurd (omega (arith, e z)); quiet = λ z. refl }
 
-  module _ (r : Receiver) (i : ℕ) (q : Receiver) (a : Answer) (j : ℕ) (x : Stretched check s r i q a j) where
+  module _ (r : Receiver) (i : ℕ) (q : Receiver) (a : Option Head) (j : ℕ) (x : Stretched check s r i q a j) where
     -- outside a frame, or at the slice's end, that is all
     pub onward-outside : is_outside q.state ≡ true → Onward check s r i q a j
     onward-outside e = record { inside = x.inside; least = x.further; further = x.leaves e; within = x.within; same = x.same }
@@ -152,7 +157,7 @@ module _ (check : List ℕ → ℕ) (s : List ℕ) where
     onward-end e = record { inside = x.inside; least = x.further; further = λ h. omega arith; within = x.within; same = x.same }
 
     -- elsewhere one byte more
-    pub onward-more : (p : Receiver) (b : Answer) (l : ℕ) → is_outside q.state ≡ false → j < length s → Onward check s q j p b l → Onward check s r i p b l
+    pub onward-more : (p : Receiver) (b : Option Head) (l : ℕ) → is_outside q.state ≡ false → j < length s → Onward check s q j p b l → Onward check s r i p b l
     onward-more p b l e h y =
         record {
           inside = y.inside;

@@ -13,7 +13,7 @@ use Rattle.reading.specs.Counters as k
 use Rattle.reading.specs.Grammar.{Rules}
 use Rattle.link_receive.specs.declared.Receiver.{Receiver}
 use Rattle.link_receive.specs.declared.State.{State}
-use Rattle.link_receive.specs.declared.State.TheVariants.{Idle, Noise, StartOfFrame, Frame, FrameEscape, Giant, GiantEscape}
+use Rattle.link_receive.specs.declared.State.TheVariants.{Idle, Noise, StartOfFrame, Frame}
 use Rattle.link_receive.specs.declared.Tally.TheVariants as tally
 use Rattle.link_receive.specs.declared.Tallies.{Tallies}
 use Rattle.link_receive.specs.declared.Move.{Move}
@@ -23,7 +23,7 @@ use Rattle.link_receive.specs.Step.{made_of, rules_of, turn_of, quiet, moved_of}
 use Rattle.link_receive.proofs.Turns.{pair_of-other}
 use Rattle.link_receive.proofs.Steps.{step_of-made}
 use Rattle.link_feed.specs.Feed.{feed_from}
-use Rattle.link_feed.specs.Advance.{line_of, is_outside, is_noise, begins_of, noised, held_after, Stands, Passed, Led}
+use Rattle.link_feed.specs.Advance.{line_of, begins_of, noised, held_after, Stands, Passed, Led}
 use Rattle.link_feed.proofs.Feeds.{feed_from-more}
 use Rattle.link_feed.proofs.Skips.{turn_of-idle, feed_from-stays}
 
@@ -35,10 +35,6 @@ held_after-add : (a b len : ℕ) → held_after (a + b) len ≡ held_after b (he
 held_after-add a zero len = ap (λ (n : ℕ). held_after n len) (add-zero a)
 held_after-add a (suc b) len = ap (λ (n : ℕ). held_after n len) (add-suc a b)
 
-pub held_after-some : (n len : ℕ) → 1 ≤ n → 0 ≡ held_after n len
-held_after-some zero len h = absurd (omega arith)
-held_after-some (suc n) len h = refl
-
 held_after-le : (a len most : ℕ) → len ≤ most → held_after a len ≤ most
 held_after-le zero len most h = h
 held_after-le (suc a) len most h = omega arith
@@ -46,16 +42,6 @@ held_after-le (suc a) len most h = omega arith
 noised-add : (a b : ℕ) (t : Tallies) → noised (a + b) t ≡ noised b (noised a t)
 noised-add a zero t = ap (λ (n : ℕ). noised n t) (add-zero a)
 noised-add a (suc b) t = ap (λ (n : ℕ). noised n t) (add-suc a b) ∙ ap (raise k.noise) (noised-add a b t)
-
--- a state that is outside a frame, by whether it is noisy
-pub line_of-noise : (state : State) → is_outside state ≡ true → line_of (is_noise state) ≡ state
-line_of-noise Idle e = refl
-line_of-noise Noise e = refl
-line_of-noise StartOfFrame e = never e
-line_of-noise Frame e = never e
-line_of-noise FrameEscape e = never e
-line_of-noise Giant e = never e
-line_of-noise GiantEscape e = never e
 
 -- outside a frame: 7e begins a pair; 00 and ff lead to Idle; another byte leads to Noise, one noise if it came in Idle
 turn_of-start : (rules : Rules) (n : Bool) (len b : ℕ) → b ≡ 0x7e → turn_of rules (line_of n) len b ≡ To StartOfFrame
@@ -248,7 +234,3 @@ module _ (check : List ℕ → ℕ) (o : Receiver) (s : List ℕ) where
               ∙ feed_from-more check (made_of o (line_of h.noisy) body m v) (made_of o StartOfFrame body m v) s h.at (omega (arith, e.whole)) (step_of-made check o (line_of h.noisy) body m v (get_or s h.at 0) (To StartOfFrame) within (turn_of-start (rules_of o) h.noisy m (get_or s h.at 0) e.first))
               ∙ p.same body len t l;
         })
-
-  -- in any other state nothing is taken
-  pub led-none : (state : State) (len i : ℕ) (t : Tallies) → i ≤ length s → len ≤ (rules_of o).limit → is_outside state ≡ false → Led check o s state len i t (record { state = state; len = len; at = i }) t
-  led-none state len i t h l e = record { inside = h; further = le_refl i; within = l; ended = λ x. never (sym e ∙ x); same = λ body. refl }

@@ -1,6 +1,5 @@
 -- 12 with tallies that a host lends. Over any check. Assumes nothing.
-use Rattle.std.proofs.Common.{◌≡◌, ℕ, ◌<◌, List, ap, ◌∙◌}
-use Rattle.link_receive.specs.declared.Answer.TheVariants.{Refused}
+use Rattle.std.proofs.Common.{◌≡◌, ℕ, ◌<◌, Err, List, ap, ◌∙◌}
 use Rattle.link_receive.specs.declared.Receiver.{Receiver}
 use Rattle.link_receive.specs.declared.Stepped.{Stepped}
 use Rattle.link_receive.specs.declared.Tallies.{Tallies}
@@ -19,7 +18,7 @@ module _ (check : List ℕ → ℕ) where
       let e : x ≡ refused_of (lent_to r t) = p.exactly ∙ step_of-over check (lent_to r t) b (rw (rules_of-made r r.state r.body r.len t) h) in
       (e, p.lent ∙ ap (λ (y : Stepped). y.next.tallies) e)
 
-  pub refused-feeds : (t u : Tallies) (r : Receiver) (s : List ℕ) (x : Fed) → (rules_of r).limit < r.len → FedWith check t r s x u → (x ≡ stopped (lent_to r t) Refused 0) × (u ≡ t)
+  pub refused-feeds : (t u : Tallies) (r : Receiver) (s : List ℕ) (x : Fed) → (rules_of r).limit < r.len → FedWith check t r s x u → (x ≡ stopped (lent_to r t) (Err (record {})) 0) × (u ≡ t)
   refused-feeds t u r s x h p =
-      let e : x ≡ stopped (lent_to r t) Refused 0 = p.exactly ∙ feed_of-over check (lent_to r t) s (rw (rules_of-made r r.state r.body r.len t) h) in
+      let e : x ≡ stopped (lent_to r t) (Err (record {})) 0 = p.exactly ∙ feed_of-over check (lent_to r t) s (rw (rules_of-made r r.state r.body r.len t) h) in
       (e, p.lent ∙ ap (λ (y : Fed). y.next.tallies) e)

@@ -1,10 +1,9 @@
 -- How feeding goes on over the parts of a receiver, its body and tallies lent; over any check and the rules of any receiver o. Assumes nothing.
-use Rattle.std.specs.Prelude.{◌≡◌, ℕ, zero, suc, ◌+◌, ◌<◌, ◌≤◌, Bool, true, false, not, ◌&&◌, List, length, drop, ◌==◌, slice_index, slice_index_or}
+use Rattle.std.specs.Prelude.{◌≡◌, ℕ, zero, suc, ◌+◌, ◌<◌, ◌≤◌, Bool, true, false, not, ◌&&◌, List, length, drop, ◌==◌, slice_index, slice_index_or, Option, Some, None, Ok}
 use Rattle.link_receive.specs.declared.State.{State}
 use Rattle.link_receive.specs.declared.State.TheVariants.{Idle, Noise, StartOfFrame, Frame, FrameEscape, Giant, GiantEscape}
 use Rattle.link_receive.specs.declared.Tallies.{Tallies}
-use Rattle.link_receive.specs.declared.Answer.{Answer}
-use Rattle.link_receive.specs.declared.Answer.TheVariants as answer
+use Rattle.link_receive.specs.declared.Head.{Head}
 use Rattle.link_receive.specs.declared.Receiver.{Receiver}
 use Rattle.byte_runs.specs.declared.Heard.{Heard}
 use Rattle.reading.specs.Counters as k
@@ -28,17 +27,17 @@ held_of state body len numbers = made_of fresh_of state body len (tallies_at num
 abbrev pub limit : ℕ
 limit = (rules_of fresh_of).limit
 
--- a step's end, from the parts
-abbrev pub stepped_of : State → List ℕ → ℕ → List ℕ → Answer → Stepped
-stepped_of state body len numbers a = record { next = held_of state body len numbers; answer = a }
+-- a step's end, from the parts and the frame that it hands out, if any
+abbrev pub stepped_of : State → List ℕ → ℕ → List ℕ → Option Head → Stepped
+stepped_of state body len numbers a = record { next = held_of state body len numbers; answer = Ok a }
 
 -- a byte's end, from what the code keeps of it
 abbrev pub stood_of : Stood → List ℕ → List ℕ → Stepped
-stood_of x body numbers = stepped_of x.state body x.len numbers x.answer
+stood_of x body numbers = stepped_of x.state body x.len numbers x.frame
 
 -- a feeding's end, from what the code keeps of it
 abbrev pub fed_of : Advanced → List ℕ → List ℕ → Fed
-fed_of a body numbers = record { next = held_of a.state body a.len numbers; answer = a.answer; taken = a.at }
+fed_of a body numbers = record { next = held_of a.state body a.len numbers; answer = Ok a.frame; taken = a.at }
 
 -- 7e and a code stand at a place
 pub record Stands (s : List ℕ) (i code : ℕ) : Type 0 where
@@ -66,16 +65,6 @@ is_outside FrameEscape = false
 is_outside Giant = false
 is_outside GiantEscape = false
 
--- .. and which
-abbrev pub is_noise : State → Bool
-is_noise Idle = false
-is_noise Noise = true
-is_noise StartOfFrame = false
-is_noise Frame = false
-is_noise FrameEscape = false
-is_noise Giant = false
-is_noise GiantEscape = false
-
 -- 01, "The reading of a stream": another byte is one noise if it came in Idle: by whether the line was noisy, and is
 abbrev pub begins_of : Bool → Bool → ℕ
 begins_of true busy = 0
@@ -97,17 +86,11 @@ pub record Awaits (s : List ℕ) (i : ℕ) : Type 0 where
   pub pair : i + 2 ≤ length s → Stands s i 0x07
   pub lone : i + 1 ≡ length s → slice_index s i ≡ 0x7e
 
--- whether an answer ends a feeding: one that is something does, where the feeding is to stop
-abbrev pub stops_at : Answer → Bool → Bool
-stops_at answer.Nothing stop = false
-stops_at (answer.Frame address t n) stop = stop
-stops_at answer.Refused stop = stop
-
 module _ (check : List ℕ → ℕ) where
   -- a slice fed from a place on: up to the first answer that is something, or else through all of them to its end
   abbrev pub went_of : Bool → Receiver → List ℕ → ℕ → Fed
   went_of true r s i = feed_from check r (drop i s) i
-  went_of false r s i = stopped (drain_of check r (drop i s)) answer.Nothing (length s)
+  went_of false r s i = stopped (drain_of check r (drop i s)) (Ok None) (length s)
 
   -- the units of an open frame: a place further on, from which feeding on is feeding from here, with no tally raised. A pair that is no unit
   -- stands there if its second byte is told
@@ -116,7 +99,7 @@ module _ (check : List ℕ → ℕ) where
     pub further : i ≤ p.at
     pub within : p.len ≤ (rules_of o).limit
     pub same : (t : Tallies) → feed_from check (made_of o Frame next p.len t) (drop p.at s) p.at ≡ feed_from check (made_of o Frame body len t) (drop i s) i
-    pub coded : 1 ≤ p.code → (7 ≤ p.code) × Stands s p.at p.code
+    pub coded : (c : ℕ) → p.code ≡ Some c → (7 ≤ c) × Stands s p.at c
 
   -- the same in an overlong tail, whatever is held
   pub record Skipped (o : Receiver) (s : List ℕ) (i j : ℕ) : Type 0 where
@@ -143,24 +126,23 @@ module _ (check : List ℕ → ℕ) where
     pub ended : is_outside c.state ≡ true → c.at ≡ length s
     pub same : (body : List ℕ) → feed_from check (made_of o c.state body c.len u) (drop c.at s) c.at ≡ feed_from check (made_of o state body len t) (drop i s) i
 
-  -- how feeding ends that stands at a place with an answer: it goes on after none, and stops at any other
-  abbrev pub fed_by : List ℕ → Answer → Receiver → ℕ → Fed
-  fed_by s answer.Nothing q j = feed_from check q (drop j s) j
-  fed_by s (answer.Frame address t n) q j = stopped q (answer.Frame address t n) j
-  fed_by s answer.Refused q j = stopped q answer.Refused j
+  -- how feeding ends that stands at a place: it stops at a frame, and goes on where there is none
+  abbrev pub fed_by : List ℕ → Option Head → Receiver → ℕ → Fed
+  fed_by s None q j = feed_from check q (drop j s) j
+  fed_by s (Some h) q j = stopped q (Ok (Some h)) j
 
   -- a receiver further on, and what it hands out, with which feeding ends as from here: whoever is outside then took some bytes, if there were
   -- any, and whoever is not hands nothing out
-  pub record Stretched (s : List ℕ) (r : Receiver) (i : ℕ) (q : Receiver) (a : Answer) (j : ℕ) : Type 0 where
+  pub record Stretched (s : List ℕ) (r : Receiver) (i : ℕ) (q : Receiver) (a : Option Head) (j : ℕ) : Type 0 where
     pub inside : j ≤ length s
     pub further : i ≤ j
     pub within : Within q
     pub same : fed_by s a q j ≡ feed_from check r (drop i s) i
     pub leaves : is_outside q.state ≡ true → i < length s → i < j
-    pub quiet : is_outside q.state ≡ false → a ≡ answer.Nothing
+    pub quiet : is_outside q.state ≡ false → a ≡ None
 
   -- the same, some bytes further if there were any
-  pub record Onward (s : List ℕ) (r : Receiver) (i : ℕ) (q : Receiver) (a : Answer) (j : ℕ) : Type 0 where
+  pub record Onward (s : List ℕ) (r : Receiver) (i : ℕ) (q : Receiver) (a : Option Head) (j : ℕ) : Type 0 where
     pub inside : j ≤ length s
     pub least : i ≤ j
     pub further : i < length s → i < j

@@ -4,17 +4,17 @@ ghost use Rattle.crc.specs.Crc.{crc_of};
 ghost use Rattle.link_receive.specs.Tally.{counter_of, raise};
 ghost use Rattle.link_receive.specs.Numbered.{number_count, tally_index, tallies_at};
 ghost use Rattle.link_receive.specs.Step.{room, fresh_of, parsed_of, closed_of, step_of};
-ghost use Rattle.link_feed.specs.Advance.{held_of, limit, stepped_of, stood_of, fed_of, is_outside, is_noise, Led, Stretched, Onward, stops_at, went_of};
+ghost use Rattle.link_feed.specs.Advance.{held_of, limit, stepped_of, stood_of, fed_of, is_outside, Led, Stretched, Onward, went_of};
 
 use crate::inside::inside;
 use crate::outside::outside;
 use crate::tails::tail;
 use crate::{Advanced, Course, Stood};
 use link_receive::moves::{parse_frame, turn};
-use link_receive::{Answer, Move, Parsed, Receiver, State, Tally};
+use link_receive::{Head, Move, Receiver, State, Tally};
 
-// The index of a tally among the ten numbers.
-fn index_of(tally: Tally) -> usize
+// The index of a tally among the ten numbers. It is spelled out, since a cast would rest it on the order in which the enum names them.
+pub fn index_of(tally: Tally) -> usize
     ensures { (result ≡ tally_index tally) × (result < number_count) }
 {
     match tally {
@@ -30,55 +30,58 @@ fn index_of(tally: Tally) -> usize
 }
 
 // One more of a tally.
-pub fn raise(tallies: &mut [u64], tally: Tally)
-    requires { length tallies.old ≡ number_count }
+pub fn raise(tallies: &mut [u64; Receiver::NUMBERS], tally: Tally)
     ensures { tallies_at tallies.new ≡ raise (counter_of tally) (tallies_at tallies.old) }
 {
     let i = index_of(tally);
-    tallies[i] = std::num::wrapping_add_u64(tallies[i], 1);
+    tallies[i] = tallies[i].wrapping_add(1);
 }
 
 // The open frame of `len` units closed, in whatever state the receiver is.
-pub fn close(tallies: &mut [u64], body: &[u8], len: usize) -> Answer
-    requires { (length tallies.old ≡ number_count) × (len ≤ length body.now) }
+pub fn close(
+    tallies: &mut [u64; Receiver::NUMBERS],
+    body: &[u8; Receiver::ROOM],
+    len: usize,
+) -> Option<Head>
+    requires { len ≤ room }
     ensures { (st : State) → stepped_of State.Idle body.now 0 tallies.new result ≡ closed_of (held_of st body.now len tallies.old) (parsed_of crc_of (take len body.now)) }
 {
     match parse_frame(&body[..len]) {
-        Parsed::Sound {
-            address,
-            frame_type,
-        } => {
+        Ok(head) => {
             raise(tallies, Tally::Frames);
-            Answer::Frame {
-                address: address,
-                frame_type: frame_type,
-                len: len - 6,
-            }
+            Some(head)
         }
-        Parsed::Dropped(tally) => {
+        Err(tally) => {
             raise(tallies, tally);
-            Answer::Nothing
+            None
         }
     }
 }
 
 // One byte.
-fn one(state: State, len: usize, tallies: &mut [u64], body: &mut [u8], b: u8) -> Stood
-    requires { (len ≤ limit) × (length body.old ≡ room) × (length tallies.old ≡ number_count) }
+#[tactic(auto, unfolding(link_receive::specs::Step::step_of, link_receive::specs::Step::rules_of))]
+fn one(
+    state: State,
+    len: usize,
+    tallies: &mut [u64; Receiver::NUMBERS],
+    body: &mut [u8; Receiver::ROOM],
+    b: u8,
+) -> Stood
+    requires { len ≤ limit }
     ensures { (stood_of result body.new tallies.new ≡ step_of crc_of (held_of state body.old len tallies.old) b) × (result.len ≤ limit) }
 {
     match turn(state, len, b) {
         Move::To(next) => Stood {
             state: next,
-            len: len,
-            answer: Answer::Nothing,
+            len,
+            frame: None,
         },
         Move::Push(d) => {
             body[len] = d;
             Stood {
                 state: State::Frame,
                 len: len + 1,
-                answer: Answer::Nothing,
+                frame: None,
             }
         }
         Move::Count(tally, next) => {
@@ -86,7 +89,7 @@ fn one(state: State, len: usize, tallies: &mut [u64], body: &mut [u8], b: u8) ->
             Stood {
                 state: next,
                 len: 0,
-                answer: Answer::Nothing,
+                frame: None,
             }
         }
         Move::Break => {
@@ -95,15 +98,15 @@ fn one(state: State, len: usize, tallies: &mut [u64], body: &mut [u8], b: u8) ->
             Stood {
                 state: State::Noise,
                 len: 0,
-                answer: Answer::Nothing,
+                frame: None,
             }
         }
         Move::Close => {
-            let answer = close(tallies, body, len);
+            let frame = close(tallies, body, len);
             Stood {
                 state: State::Idle,
                 len: 0,
-                answer: answer,
+                frame,
             }
         }
     }
@@ -113,44 +116,24 @@ fn one(state: State, len: usize, tallies: &mut [u64], body: &mut [u8], b: u8) ->
 fn is_outside(state: State) -> bool
     ensures { result ≡ is_outside state }
 {
-    match state {
-        State::Idle => true,
-        State::Noise => true,
-        State::StartOfFrame => false,
-        State::Frame => false,
-        State::FrameEscape => false,
-        State::Giant => false,
-        State::GiantEscape => false,
-    }
-}
-
-fn is_noise(state: State) -> bool
-    ensures { result ≡ is_noise state }
-{
-    match state {
-        State::Idle => false,
-        State::Noise => true,
-        State::StartOfFrame => false,
-        State::Frame => false,
-        State::FrameEscape => false,
-        State::Giant => false,
-        State::GiantEscape => false,
-    }
+    matches!(state, State::Idle | State::Noise)
 }
 
 // Outside a frame: up to its opener, which is taken, or to the slice's end. In any other state nothing is taken.
-fn line(state: State, len: usize, tallies: &mut [u64], s: &[u8], i: usize) -> Course
-    requires { (len ≤ limit) × (length tallies.old ≡ number_count) × (i < length s.now) }
+fn line(
+    state: State,
+    len: usize,
+    tallies: &mut [u64; Receiver::NUMBERS],
+    s: &[u8],
+    i: usize,
+) -> Course
+    requires { (len ≤ limit) × (i < length s.now) }
     ensures { Led crc_of fresh_of s.now state len i (tallies_at tallies.old) result (tallies_at tallies.new) }
 {
     if !is_outside(state) {
-        return Course {
-            state: state,
-            len: len,
-            at: i,
-        };
+        return Course { state, len, at: i };
     }
-    let noisy = is_noise(state);
+    let noisy = matches!(state, State::Noise);
     outside(noisy, len, tallies, s, i)
 }
 
@@ -158,13 +141,13 @@ fn line(state: State, len: usize, tallies: &mut [u64], s: &[u8], i: usize) -> Co
 fn stretch(
     state: State,
     len: usize,
-    tallies: &mut [u64],
-    body: &mut [u8],
+    tallies: &mut [u64; Receiver::NUMBERS],
+    body: &mut [u8; Receiver::ROOM],
     s: &[u8],
     i: usize,
 ) -> Advanced
-    requires { (len ≤ limit) × (length body.old ≡ room) × (length tallies.old ≡ number_count) × (i ≤ length s.now) × (is_outside state ≡ true → i ≡ length s.now) }
-    ensures { Stretched crc_of s.now (held_of state body.old len tallies.old) i (held_of result.state body.new result.len tallies.new) result.answer result.at }
+    requires { (len ≤ limit) × (i ≤ length s.now) × (is_outside state ≡ true → i ≡ length s.now) }
+    ensures { Stretched crc_of s.now (held_of state body.old len tallies.old) i (held_of result.state body.new result.len tallies.new) result.frame result.at }
 {
     match state {
         State::Frame => inside(len, tallies, body, s, i),
@@ -172,15 +155,15 @@ fn stretch(
             let at = tail(s, i);
             Advanced {
                 state: State::Giant,
-                len: len,
-                answer: Answer::Nothing,
-                at: at,
+                len,
+                frame: None,
+                at,
             }
         }
         _ => Advanced {
-            state: state,
-            len: len,
-            answer: Answer::Nothing,
+            state,
+            len,
+            frame: None,
             at: i,
         },
     }
@@ -190,21 +173,19 @@ fn stretch(
 fn single(
     state: State,
     len: usize,
-    tallies: &mut [u64],
-    body: &mut [u8],
+    tallies: &mut [u64; Receiver::NUMBERS],
+    body: &mut [u8; Receiver::ROOM],
     s: &[u8],
     i: usize,
 ) -> Advanced
-    requires { (len ≤ limit) × (length body.old ≡ room) × (length tallies.old ≡ number_count) × (i < length s.now) }
-    ensures { Onward crc_of s.now (held_of state body.old len tallies.old) i (held_of result.state body.new result.len tallies.new) result.answer result.at }
+    requires { (len ≤ limit) × (i < length s.now) }
+    ensures { Onward crc_of s.now (held_of state body.old len tallies.old) i (held_of result.state body.new result.len tallies.new) result.frame result.at }
 {
     let x = one(state, len, tallies, body, s[i]);
-    let next = x.state;
-    let answer = x.answer;
     Advanced {
-        state: next,
+        state: x.state,
         len: x.len,
-        answer: answer,
+        frame: x.frame,
         at: i + 1,
     }
 }
@@ -213,47 +194,36 @@ fn single(
 fn onward(
     state: State,
     len: usize,
-    tallies: &mut [u64],
-    body: &mut [u8],
+    tallies: &mut [u64; Receiver::NUMBERS],
+    body: &mut [u8; Receiver::ROOM],
     s: &[u8],
     i: usize,
 ) -> Advanced
-    requires { (len ≤ limit) × (length body.old ≡ room) × (length tallies.old ≡ number_count) × (i ≤ length s.now) × (is_outside state ≡ true → i ≡ length s.now) }
-    ensures { Onward crc_of s.now (held_of state body.old len tallies.old) i (held_of result.state body.new result.len tallies.new) result.answer result.at }
+    requires { (len ≤ limit) × (i ≤ length s.now) × (is_outside state ≡ true → i ≡ length s.now) }
+    ensures { Onward crc_of s.now (held_of state body.old len tallies.old) i (held_of result.state body.new result.len tallies.new) result.frame result.at }
 {
     let a = stretch(state, len, tallies, body, s, i);
-    let next = a.state;
-    if is_outside(next) {
+    if is_outside(a.state) {
         return a;
     }
-    let at = a.at;
-    if at == s.len() {
+    if a.at == s.len() {
         return a;
     }
-    single(next, a.len, tallies, body, s, at)
-}
-
-// Whether to stop at an answer.
-fn stops(answer: Answer, stop: bool) -> bool
-    ensures { result ≡ stops_at answer stop }
-{
-    match answer {
-        Answer::Nothing => false,
-        _ => stop,
-    }
+    single(a.state, a.len, tallies, body, s, a.at)
 }
 
 // Feeds a slice from a place on: up to the first frame handed out if it is to stop there, else through every frame, and at most to its end.
+// A turn of the loop goes on by a run or by a frame.
 pub fn advance(
     state0: State,
     len0: usize,
-    tallies: &mut [u64],
-    body: &mut [u8],
+    tallies: &mut [u64; Receiver::NUMBERS],
+    body: &mut [u8; Receiver::ROOM],
     s: &[u8],
     i0: usize,
     stop: bool,
 ) -> Advanced
-    requires { (len0 ≤ limit) × (length body.old ≡ room) × (length tallies.old ≡ number_count) × (i0 ≤ length s.now) }
+    requires { (len0 ≤ limit) × (i0 ≤ length s.now) }
     ensures { fed_of result body.new tallies.new ≡ went_of crc_of stop (held_of state0 body.old len0 tallies.old) s.now i0 }
 {
     let mut state = state0;
@@ -261,21 +231,18 @@ pub fn advance(
     let mut i = i0;
     while i < s.len() {
         let o = line(state, len, tallies, s, i);
-        let from = o.state;
-        let a = onward(from, o.len, tallies, body, s, o.at);
-        let answer = a.answer;
-        if stops(answer, stop) {
+        let a = onward(o.state, o.len, tallies, body, s, o.at);
+        if stop && a.frame.is_some() {
             return a;
         }
-        let next = a.state;
-        state = next;
+        state = a.state;
         len = a.len;
         i = a.at;
     }
     Advanced {
-        state: state,
-        len: len,
-        answer: Answer::Nothing,
+        state,
+        len,
+        frame: None,
         at: i,
     }
 }

@@ -1,16 +1,14 @@
 // An open frame: its units, raw and escaped, and the pair that closes or breaks it.
-ghost use Rattle.std.specs.Prelude.{◌≡◌, ◌+◌, ◌≤◌, length};
+ghost use Rattle.std.specs.Prelude.{◌+◌, ◌≤◌, length};
 ghost use Rattle.crc.specs.Crc.{crc_of};
 ghost use Rattle.link_receive.specs.declared.State.TheVariants.{Frame};
-ghost use Rattle.link_receive.specs.Numbered.{number_count};
 ghost use Rattle.link_receive.specs.Step.{room, fresh_of};
 ghost use Rattle.link_feed.specs.Advance.{held_of, limit, Ahead, Stretched};
 
 use crate::feeding::{close, raise};
 use crate::{Advanced, Units};
 use byte_runs::Sort;
-use escaping::Unescaped;
-use link_receive::{Answer, Receiver, State, Tally};
+use link_receive::{Receiver, State, Tally};
 
 // Whether a 7e stands at one of the two places behind this one, or no two bytes stand there.
 fn soon(s: &[u8], i: usize) -> bool
@@ -26,9 +24,9 @@ fn soon(s: &[u8], i: usize) -> bool
 }
 
 // The units of an open frame, raw and escaped, as far as there is room and the slice has them whole. A raw byte that has a 7e soon behind it is
-// taken by itself: the start of a loop over words would cost more.
-fn units(len0: usize, body: &mut [u8], s: &[u8], i0: usize) -> Units
-    requires { (len0 ≤ limit) × (length body.old ≡ room) × (i0 ≤ length s.now) }
+// taken by itself: the start of a loop over words would cost more. A step is one byte, a pair or a run, so the place is kept by hand.
+fn units(len0: usize, body: &mut [u8; Receiver::ROOM], s: &[u8], i0: usize) -> Units
+    requires { (len0 ≤ limit) × (i0 ≤ length s.now) }
     ensures { Ahead crc_of fresh_of s.now body.old len0 i0 body.new result }
 {
     let mut len = len0;
@@ -38,7 +36,7 @@ fn units(len0: usize, body: &mut [u8], s: &[u8], i0: usize) -> Units
         let c = s[i + 1];
         if b == 0x7e {
             match escaping::unescaped_byte(c) {
-                Unescaped::Byte(d) => {
+                Ok(d) => {
                     if Receiver::MAX_FRAME_SIZE <= len {
                         break;
                     }
@@ -47,11 +45,11 @@ fn units(len0: usize, body: &mut [u8], s: &[u8], i0: usize) -> Units
                     i += 2;
                     continue;
                 }
-                Unescaped::Invalid => {
+                Err(_) => {
                     return Units {
-                        len: len,
+                        len,
                         at: i,
-                        code: c,
+                        code: Some(c),
                     };
                 }
             }
@@ -70,35 +68,40 @@ fn units(len0: usize, body: &mut [u8], s: &[u8], i0: usize) -> Units
         i += k;
     }
     Units {
-        len: len,
+        len,
         at: i,
-        code: 0,
+        code: None,
     }
 }
 
 // An open frame up to its end, if the slice has the pair that closes or breaks it.
-pub fn inside(len: usize, tallies: &mut [u64], body: &mut [u8], s: &[u8], i: usize) -> Advanced
-    requires { (len ≤ limit) × (length body.old ≡ room) × (length tallies.old ≡ number_count) × (i ≤ length s.now) }
-    ensures { Stretched crc_of s.now (held_of State.Frame body.old len tallies.old) i (held_of result.state body.new result.len tallies.new) result.answer result.at }
+pub fn inside(
+    len: usize,
+    tallies: &mut [u64; Receiver::NUMBERS],
+    body: &mut [u8; Receiver::ROOM],
+    s: &[u8],
+    i: usize,
+) -> Advanced
+    requires { (len ≤ limit) × (i ≤ length s.now) }
+    ensures { Stretched crc_of s.now (held_of State.Frame body.old len tallies.old) i (held_of result.state body.new result.len tallies.new) result.frame result.at }
 {
     let p = units(len, body, s, i);
-    let code = p.code;
-    if code == 0x00 {
+    let Some(code) = p.code else {
         return Advanced {
             state: State::Frame,
             len: p.len,
-            answer: Answer::Nothing,
+            frame: None,
             at: p.at,
         };
-    }
+    };
     let at = p.at + 2;
     if code == 0x08 {
-        let answer = close(tallies, body, p.len);
+        let frame = close(tallies, body, p.len);
         return Advanced {
             state: State::Idle,
             len: 0,
-            answer: answer,
-            at: at,
+            frame,
+            at,
         };
     }
     raise(tallies, Tally::Broken);
@@ -110,7 +113,7 @@ pub fn inside(len: usize, tallies: &mut [u64], body: &mut [u8], s: &[u8], i: usi
     Advanced {
         state: State::Noise,
         len: 0,
-        answer: Answer::Nothing,
-        at: at,
+        frame: None,
+        at,
     }
 }

@@ -8,7 +8,7 @@ ghost use Rattle.link_feed.specs.Lent.{numbers_fed, fed_in_of, start_of, reached
 use crate::feeding::advance;
 use crate::{FedIn, Reached};
 use link_receive::numbered::{state_at, state_number};
-use link_receive::{Answer, Receiver};
+use link_receive::{OverLimit, Receiver};
 
 // `feed` over a receiver that is lent as ten numbers (state, length, tallies) and its body: for a loop that keeps them.
 // Refused by 12, with nothing changed and nothing taken, if the length is over the limit.
@@ -24,18 +24,16 @@ pub fn feed_in(
     let len = numbers[1] as usize;
     if Receiver::MAX_FRAME_SIZE < len {
         return FedIn {
-            answer: Answer::Refused,
+            answer: Err(OverLimit),
             taken: 0,
         };
     }
     let state = state_at(numbers[0]);
     let a = advance(state, len, numbers, body, s, 0, true);
-    let next = a.state;
-    let answer = a.answer;
-    numbers[0] = state_number(next);
+    numbers[0] = state_number(a.state);
     numbers[1] = a.len as u64;
     FedIn {
-        answer: answer,
+        answer: Ok(a.frame),
         taken: a.at,
     }
 }
@@ -62,10 +60,9 @@ pub fn feed_from(
     let n = s.len();
     let start = start_of(n, at);
     let f = feed_in(numbers, body, &s[start..]);
-    let answer = f.answer;
     let reached = start + f.taken;
     Reached {
-        answer: answer,
+        answer: f.answer,
         at: reached,
     }
 }

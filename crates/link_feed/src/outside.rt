@@ -2,14 +2,14 @@
 ghost use Rattle.std.specs.Prelude.{◌≡◌, ◌+◌, ◌<◌, ◌≤◌, true, length, slice_index};
 ghost use Rattle.crc.specs.Crc.{crc_of};
 ghost use Rattle.byte_runs.specs.Runs.{is_of};
-ghost use Rattle.link_receive.specs.Numbered.{number_count, tallies_at};
+ghost use Rattle.link_receive.specs.Numbered.{tallies_at};
 ghost use Rattle.link_receive.specs.Step.{fresh_of};
 ghost use Rattle.link_feed.specs.Advance.{limit, line_of, noised, begins_of, held_after, Stands, Awaits, Passed, Led};
 
 use crate::Course;
-use crate::feeding::raise;
+use crate::feeding::{index_of, raise};
 use byte_runs::{Heard, Sort};
-use link_receive::{State, Tally};
+use link_receive::{Receiver, State, Tally};
 
 // Whether 7e 07 stands at a place.
 fn opens(s: &[u8], i: usize) -> bool
@@ -56,7 +56,7 @@ pub fn end_of(n: usize, i: usize, most: usize) -> usize
     if n - i < most { n } else { i + most }
 }
 
-// Bytes and pairs one by one, up to a place, or to an opener or a lone last 7e before it.
+// Bytes and pairs one by one, up to a place, or to an opener or a lone last 7e before it. A step is one byte or two.
 fn few(noisy0: bool, s: &[u8], i0: usize, end: usize) -> Heard
     requires { (i0 ≤ end) × (end ≤ length s.now) }
     ensures { Passed crc_of fresh_of s.now noisy0 i0 result × (result.at < end → Awaits s.now result.at) }
@@ -84,8 +84,8 @@ fn few(noisy0: bool, s: &[u8], i0: usize, end: usize) -> Heard
         i += 1;
     }
     Heard {
-        noisy: noisy,
-        count: count,
+        noisy,
+        count,
         at: i,
     }
 }
@@ -97,7 +97,7 @@ fn words(noisy: bool, s: &[u8], i: usize) -> Heard
 {
     if short(s, i) {
         return Heard {
-            noisy: noisy,
+            noisy,
             count: 0,
             at: i,
         };
@@ -112,7 +112,7 @@ fn window(went: usize) -> usize
     if went == 0 { 64 } else { 8 }
 }
 
-// All up to an opener, a lone last 7e or the slice's end, the first run by words.
+// All up to an opener, a lone last 7e or the slice's end, the first run by words. A step is as long as its runs.
 fn quiet(noisy0: bool, s: &[u8], i0: usize) -> Heard
     requires { i0 ≤ length s.now }
     ensures { Passed crc_of fresh_of s.now noisy0 i0 result × Awaits s.now result.at }
@@ -133,8 +133,8 @@ fn quiet(noisy0: bool, s: &[u8], i0: usize) -> Heard
         }
     }
     Heard {
-        noisy: noisy,
-        count: count,
+        noisy,
+        count,
         at: i,
     }
 }
@@ -187,7 +187,7 @@ fn calm(noisy: bool, s: &[u8], i: usize) -> Heard
     let start = lull(noisy, s, i);
     if opens(s, start) {
         return Heard {
-            noisy: noisy,
+            noisy,
             count: 0,
             at: start,
         };
@@ -207,11 +207,11 @@ fn calm(noisy: bool, s: &[u8], i: usize) -> Heard
 }
 
 // So many noises more.
-fn add_noise(tallies: &mut [u64], count: usize)
-    requires { length tallies.old ≡ number_count }
+fn add_noise(tallies: &mut [u64; Receiver::NUMBERS], count: usize)
     ensures { tallies_at tallies.new ≡ noised count (tallies_at tallies.old) }
 {
-    tallies[9] = std::num::wrapping_add_u64(tallies[9], count as u64);
+    let i = index_of(Tally::Noise);
+    tallies[i] = tallies[i].wrapping_add(count as u64);
 }
 
 // How many units are held after so many noises.
@@ -228,8 +228,14 @@ fn line_of(noisy: bool) -> State
 }
 
 // Up to the opener of a frame, which is taken, or to the slice's end.
-pub fn outside(noisy: bool, len: usize, tallies: &mut [u64], s: &[u8], i: usize) -> Course
-    requires { (len ≤ limit) × (length tallies.old ≡ number_count) × (i < length s.now) }
+pub fn outside(
+    noisy: bool,
+    len: usize,
+    tallies: &mut [u64; Receiver::NUMBERS],
+    s: &[u8],
+    i: usize,
+) -> Course
+    requires { (len ≤ limit) × (i < length s.now) }
     ensures { Led crc_of fresh_of s.now (line_of noisy) len i (tallies_at tallies.old) result (tallies_at tallies.new) }
 {
     let q = calm(noisy, s, i);
@@ -241,9 +247,9 @@ pub fn outside(noisy: bool, len: usize, tallies: &mut [u64], s: &[u8], i: usize)
         if at == s.len() {
             let state = line_of(q.noisy);
             return Course {
-                state: state,
+                state,
                 len: held,
-                at: at,
+                at,
             };
         }
         return Course {

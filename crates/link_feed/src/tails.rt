@@ -25,7 +25,7 @@ fn half(s: &[u8], i: usize, j: usize) -> bool
     odd
 }
 
-// Units of a tail one by one, up to a place, or to the pair that ends the tail or a lone last 7e before it.
+// Units of a tail one by one, up to a place, or to the pair that ends the tail or a lone last 7e before it. A step is one byte or two.
 fn few(s: &[u8], i0: usize, end: usize) -> usize
     requires { (i0 ≤ end) × (end ≤ length s.now) }
     ensures { Skipped crc_of fresh_of s.now i0 result }
@@ -56,7 +56,7 @@ fn paced(pace: usize, went: usize) -> usize {
 }
 
 // What an overlong tail skips, as far as the slice has it whole: all before the pair that opens or closes a frame. All up to the next 07 or 08
-// goes at once; where it ends no pair, it is skipped too.
+// goes at once; where it ends no pair, it is skipped too. A step is as long as its run.
 pub fn tail(s: &[u8], i0: usize) -> usize
     requires { i0 ≤ length s.now }
     ensures { Skipped crc_of fresh_of s.now i0 result }

@@ -1,5 +1,7 @@
 -- A receiver put into ten numbers and read back. Assumes nothing.
-use Rattle.std.proofs.Common.{◌≡◌, ℕ, zero, suc, ◌≤◌, List, [], ◌∷◌, length, get_or, sym, refl, arith, le-ltb}
+use Rattle.std.proofs.Common.{◌≡◌, ℕ, zero, suc, ◌<◌, ◌≤◌, Ok, Err, List, [], ◌∷◌, length, get_or, sym, refl, arith, le-ltb, ltb-true, ltb-false}
+use Rattle.laws.proofs.Cases.{by}
+use Rattle.link_receive.specs.declared.OverLimit.{OverLimit}
 use Rattle.link_receive.specs.declared.State.{State}
 use Rattle.link_receive.specs.declared.State.TheVariants.{Idle, Noise, StartOfFrame, Frame, FrameEscape, Giant, GiantEscape}
 use Rattle.link_receive.specs.declared.Receiver.{Receiver}
@@ -58,6 +60,22 @@ pub too_long-at : (numbers body : List ℕ) → too_long (receiver_at numbers bo
 too_long-at numbers body = rw (rules_of-at numbers body, rules_of-at numbers [])
 
 -- within the limit the ten numbers are told: `feed`, `extend_from_slice` and the doors cite this
-pub numbers_told-within : (r : Receiver) → Within r → (numbers_told r).numbers ≡ numbers_of r
+pub numbers_told-within : (r : Receiver) → Within r → numbers_told r ≡ Ok (numbers_of r)
 unfolding numbers_told
 numbers_told-within r h = rw (le-ltb (rules_of r).limit r.len h)
+
+-- .. and are not told elsewhere
+pub numbers_told-ok : (r : Receiver) (numbers : List ℕ) → numbers_told r ≡ Ok numbers → Within r × (numbers ≡ numbers_of r)
+unfolding numbers_told
+numbers_told-ok r numbers e =
+    by (too_long r)
+    (λ t. let f = rw t at e in absurd (let z : ◌≡◌ {A = ℕ} 0 1 = cc in omega arith))
+    (λ t. let f = rw t at e in (ltb-false (rules_of r).limit r.len t, cc))
+
+-- so an error is 12
+pub numbers_told-err : (r : Receiver) (x : OverLimit) → numbers_told r ≡ Err x → (rules_of r).limit < r.len
+unfolding numbers_told
+numbers_told-err r x e =
+    by (too_long r)
+    (λ t. ltb-true (rules_of r).limit r.len t)
+    (λ t. let f = rw t at e in absurd (let z : ◌≡◌ {A = ℕ} 0 1 = cc in omega arith))

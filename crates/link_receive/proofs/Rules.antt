@@ -1,5 +1,5 @@
 -- The rules that a receiver reads by: whatever is changed of it, by a byte or by a reset, they stay. Over any check. Assumes nothing.
-use Rattle.std.proofs.Common.{◌≡◌, ℕ, ◌+◌, ◌≤◌, Bool, true, false, cond, List, take, set, refl, ◌∙◌, arith}
+use Rattle.std.proofs.Common.{◌≡◌, ℕ, ◌+◌, ◌≤◌, Bool, true, false, cond, Result, Ok, Err, List, take, set, refl, ◌∙◌, arith}
 use Rattle.link.specs.Wire.{payload_limit}
 use Rattle.reading.specs.Counters as k
 use Rattle.reading.specs.Grammar.{present}
@@ -8,8 +8,8 @@ use Rattle.link_receive.specs.declared.State.TheVariants.{Idle, Noise, Frame}
 use Rattle.link_receive.specs.declared.Tallies.{Tallies}
 use Rattle.link_receive.specs.declared.Move.{Move}
 use Rattle.link_receive.specs.declared.Move.TheVariants.{To, Push, Count, Break, Close}
-use Rattle.link_receive.specs.declared.Parsed.{Parsed}
-use Rattle.link_receive.specs.declared.Parsed.TheVariants.{Sound, Dropped}
+use Rattle.link_receive.specs.declared.Tally.{Tally}
+use Rattle.link_receive.specs.declared.Head.{Head}
 use Rattle.link_receive.specs.declared.Receiver.{Receiver}
 use Rattle.link_receive.specs.declared.Stepped.{Stepped}
 use Rattle.link_receive.specs.Tally.{counter_of, raise, zeros}
@@ -56,9 +56,9 @@ unfolding reset_of
 rules_of-reset r = kept r (too_long r) _ (rules_of-made r r.state r.body r.len zeros)
 
 module _ (check : List ℕ → ℕ) (r : Receiver) where
-  rules_of-closed : (p : Parsed) → rules_of (closed_of r p).next ≡ rules_of r
-  rules_of-closed (Sound address t) = rules_of-made r Idle r.body 0 (raise k.frames r.tallies)
-  rules_of-closed (Dropped x) = rules_of-made r Idle r.body 0 (raise (counter_of x) r.tallies)
+  rules_of-closed : (p : Result Head Tally) → rules_of (closed_of r p).next ≡ rules_of r
+  rules_of-closed (Ok h) = rules_of-made r Idle r.body 0 (raise k.frames r.tallies)
+  rules_of-closed (Err x) = rules_of-made r Idle r.body 0 (raise (counter_of x) r.tallies)
 
   rules_of-moved : (m : Move) → rules_of (moved_of check r m).next ≡ rules_of r
   rules_of-moved (To s) = rules_of-made r s r.body r.len r.tallies

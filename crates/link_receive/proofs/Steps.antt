@@ -1,9 +1,7 @@
 -- What a step is, once the test of the length and the turn are known; over any check. Assumes nothing.
-use Rattle.std.proofs.Common.{◌≡◌, ℕ, ◌<◌, ◌≤◌, Bool, true, false, cond, ltb, List, length, take, refl, arith, length-take-le, ltb-false, le-ltb, lt-ltb}
+use Rattle.std.proofs.Common.{◌≡◌, ℕ, ◌<◌, ◌≤◌, Bool, true, false, cond, ltb, Ok, List, length, take, refl, arith, length-take-le, ltb-false, le-ltb, lt-ltb}
 use Rattle.reading.specs.Counts.{Verdict, runt, checksum, sound, verdict}
-use Rattle.address.specs.declared.Address.{Address}
-use Rattle.link.specs.declared.«Type».{«Type»}
-use Rattle.link_receive.specs.declared.Parsed.TheVariants.{Sound}
+use Rattle.link_receive.specs.declared.Head.{Head}
 use Rattle.link_receive.specs.declared.Move.{Move}
 use Rattle.link_receive.specs.declared.State.{State}
 use Rattle.link_receive.specs.declared.Tallies.{Tallies}
@@ -29,15 +27,15 @@ module _ (check : List ℕ → ℕ) where
         let same = rules_of-made r state body len t in
         step_of-within (made_of r state body len t) b m (rw same h) (rw same e)
 
-  judged-sound : (v : Verdict) (s : List ℕ) (address : Address) (t : «Type») → judged_of v s ≡ Sound address t → v ≡ sound
-  judged-sound runt s address t e = cc
-  judged-sound checksum s address t e = cc
-  judged-sound sound s address t e = refl
+  judged-sound : (v : Verdict) (s : List ℕ) (h : Head) → judged_of v s ≡ Ok h → v ≡ sound
+  judged-sound runt s h e = cc
+  judged-sound checksum s h e = cc
+  judged-sound sound s h e = refl
 
   -- what is parsed as sound is so by 01's verdict, and then has at least 6 bytes
-  pub parsed_of-sound : (s : List ℕ) (address : Address) (t : «Type») → parsed_of check s ≡ Sound address t → verdict check s ≡ sound
+  pub parsed_of-sound : (s : List ℕ) (h : Head) → parsed_of check s ≡ Ok h → verdict check s ≡ sound
   unfolding parsed_of
-  parsed_of-sound s address t e = judged-sound (verdict check s) s address t e
+  parsed_of-sound s h e = judged-sound (verdict check s) s h e
 
   verdict-sound : (s : List ℕ) → verdict check s ≡ sound → 6 ≤ length s
   unfolding verdict
@@ -48,5 +46,5 @@ module _ (check : List ℕ → ℕ) where
       go false e v f = ltb-false (length s) 6 e
 
   -- so a sound frame's units are at least 6
-  pub sound-units : (body : List ℕ) (len : ℕ) (address : Address) (t : «Type») → len ≤ length body → parsed_of check (take len body) ≡ Sound address t → 6 ≤ len
-  sound-units body len address t h e = omega (arith, verdict-sound (take len body) (parsed_of-sound (take len body) address t e), length-take-le len body h)
+  pub sound-units : (body : List ℕ) (len : ℕ) (h : Head) → len ≤ length body → parsed_of check (take len body) ≡ Ok h → 6 ≤ len
+  sound-units body len h l e = omega (arith, verdict-sound (take len body) (parsed_of-sound (take len body) h e), length-take-le len body l)

@@ -4,8 +4,8 @@ use Rattle.escaping.specs.Escapes.{Meaning, datum, opener, closer, neither, mean
 use Rattle.laws.specs.Handed.{refused, value}
 use Rattle.reading.specs.Grammar.{Rules}
 use Rattle.escaping.specs.Handed.{handed_byte, unescape_meant, unescape_handed}
-use Rattle.escaping.specs.declared.Unescaped.{Unescaped}
-use Rattle.escaping.specs.declared.Unescaped.TheVariants.{Byte, Invalid}
+use Rattle.escaping.specs.declared.InvalidEscapeSequence.{InvalidEscapeSequence}
+use Rattle.std.specs.Prelude.{Result, Ok, Err}
 use Rattle.link_receive.specs.declared.State.{State}
 use Rattle.link_receive.specs.declared.State.TheVariants.{Idle, Noise, StartOfFrame, Frame, FrameEscape, Giant, GiantEscape}
 use Rattle.link_receive.specs.declared.Tally.TheVariants as tally
@@ -54,20 +54,20 @@ meaning-closer b h = rw (ne_eqb b 8 h) (go (ltb b 7) (eqb b 7))
     go false false e = let z : ◌≡◌ {A = ℕ} 0 1 = cc in omega arith
 
 -- what `unescaped_byte` says of the byte after 7e inside a frame: a unit, or the escaped overlong, or no data
-module _ (rules : Rules) (u : Unescaped) (len b : ℕ) (e : handed_byte u ≡ unescape_handed b) where
-  means : (d : ℕ) → u ≡ Byte d → (meaning b ≡ datum) × (d ≡ unescaped_of b)
+module _ (rules : Rules) (u : Result ℕ InvalidEscapeSequence) (len b : ℕ) (e : handed_byte u ≡ unescape_handed b) where
+  means : (d : ℕ) → u ≡ Ok d → (meaning b ≡ datum) × (d ≡ unescaped_of b)
   unfolding unescape_handed
   means d f = byte-means (meaning b) b d (sym (ap handed_byte f) ∙ e)
 
-  pub escape-push : (d : ℕ) → u ≡ Byte d → len < rules.limit → Push d ≡ turn_of rules FrameEscape len b
+  pub escape-push : (d : ℕ) → u ≡ Ok d → len < rules.limit → Push d ≡ turn_of rules FrameEscape len b
   unfolding turn_of
   escape-push d f h = rw ((means d f).0, lt-ltb len rules.limit h, (means d f).1)
 
-  pub escape-overlong : (d : ℕ) → u ≡ Byte d → rules.limit ≤ len → Count tally.Escaped GiantEscape ≡ turn_of rules FrameEscape len b
+  pub escape-overlong : (d : ℕ) → u ≡ Ok d → rules.limit ≤ len → Count tally.Escaped GiantEscape ≡ turn_of rules FrameEscape len b
   unfolding turn_of
   escape-overlong d f h = rw ((means d f).0, le-ltb len rules.limit h)
 
-  pub escape-break : u ≡ Invalid → (b ≡ 0x08 → ⊥) → Break ≡ turn_of rules FrameEscape len b
+  pub escape-break : {x : InvalidEscapeSequence} → u ≡ Err x → (b ≡ 0x08 → ⊥) → Break ≡ turn_of rules FrameEscape len b
   unfolding turn_of unescape_handed
   escape-break f n = invalid-means rules (meaning b) len b (meaning-closer b n) (sym (ap handed_byte f) ∙ e)
 

@@ -1,5 +1,5 @@
 -- A receiver as ten numbers and its body: the state's number, the length, and the tallies in the ledger's order. Assumes nothing.
-use Rattle.std.specs.Prelude.{ℕ, cond, List, ◌∷◌, replicate, ◌==◌, slice_index}
+use Rattle.std.specs.Prelude.{ℕ, cond, List, ◌∷◌, ◌==◌, slice_index, Result, Ok}
 use Rattle.laws.specs.Numbers.{over_limit}
 use Rattle.link_receive.specs.declared.State.{State}
 use Rattle.link_receive.specs.declared.State.TheVariants.{Idle, Noise, StartOfFrame, Frame, FrameEscape, Giant, GiantEscape}
@@ -7,8 +7,7 @@ use Rattle.link_receive.specs.declared.Receiver.{Receiver}
 use Rattle.link_receive.specs.declared.Tallies.{Tallies}
 use Rattle.link_receive.specs.declared.Tally.{Tally}
 use Rattle.link_receive.specs.declared.Tally.TheVariants as tally
-use Rattle.link_receive.specs.declared.Answer.TheVariants.{Nothing}
-use Rattle.link_receive.specs.declared.numbered.Numbers.{Numbers}
+use Rattle.link_receive.specs.declared.OverLimit.{OverLimit}
 use Rattle.link_receive.specs.Tally.{eight_of}
 use Rattle.link_receive.specs.Frames.{refused_by}
 use Rattle.link_receive.specs.Step.{fresh_of, made_of, too_long}
@@ -71,7 +70,5 @@ abbrev pub numbers_of : Receiver → List ℕ
 numbers_of r = state_number r.state ∷ r.len ∷ eight_of r.tallies
 
 -- 01, "Numbers handed back", 12: a state with a length over its limit has no numbers to hand out
-unfoldable pub numbers_told : Receiver → Numbers
-numbers_told r =
-    cond (too_long r) (record { numbers = replicate number_count 0; answer = refused_by over_limit })
-    (record { numbers = numbers_of r; answer = Nothing })
+unfoldable pub numbers_told : Receiver → Result (List ℕ) OverLimit
+numbers_told r = cond (too_long r) (refused_by over_limit (numbers_of r)) (Ok (numbers_of r))

@@ -1,5 +1,5 @@
 -- What one byte does to a receiver, over any check. Assumes nothing.
-use Rattle.std.specs.Prelude.{ℕ, ◌+◌, ◌-◌, ◌≤◌, Bool, cond, List, take, replicate, ◌==◌, nat_lt, slice_set}
+use Rattle.std.specs.Prelude.{ℕ, ◌+◌, ◌-◌, ◌≤◌, Bool, cond, List, length, take, replicate, ◌==◌, nat_lt, slice_set, Some, None, Result, Ok, Err}
 use Rattle.laws.specs.Bytes.{be16_at}
 use Rattle.laws.specs.Numbers.{over_limit}
 use Rattle.escaping.specs.Escapes.{Meaning, datum, opener, closer, neither, meaning, unescaped_of}
@@ -10,13 +10,12 @@ use Rattle.reading.specs.Grammar.{Rules, present}
 use Rattle.reading.specs.Counts.{Verdict, runt, checksum, sound, verdict}
 use Rattle.link_receive.specs.declared.State.{State}
 use Rattle.link_receive.specs.declared.State.TheVariants.{Idle, Noise, StartOfFrame, Frame, FrameEscape, Giant, GiantEscape}
+use Rattle.link_receive.specs.declared.Tally.{Tally}
 use Rattle.link_receive.specs.declared.Tally.TheVariants as tally
 use Rattle.link_receive.specs.declared.Tallies.{Tallies}
 use Rattle.link_receive.specs.declared.Move.{Move}
 use Rattle.link_receive.specs.declared.Move.TheVariants.{To, Push, Count, Break, Close}
-use Rattle.link_receive.specs.declared.Parsed.{Parsed}
-use Rattle.link_receive.specs.declared.Parsed.TheVariants.{Sound, Dropped}
-use Rattle.link_receive.specs.declared.Answer.TheVariants as answer
+use Rattle.link_receive.specs.declared.Head.{Head}
 use Rattle.link_receive.specs.declared.Receiver.{Receiver}
 use Rattle.link_receive.specs.declared.Stepped.{Stepped}
 use Rattle.link_receive.specs.Tally.{counter_of, raise, zeros}
@@ -114,30 +113,34 @@ broken_of r = counted_of (counted_of r k.broken Noise) k.noise Noise
 
 -- a receiver that hands nothing out
 abbrev pub quiet : Receiver → Stepped
-quiet r = record { next = r; answer = answer.Nothing }
+quiet r = record { next = r; answer = Ok None }
 
--- closed ..: then Idle. A sound frame is handed out, its payload six bytes shorter than its body
-abbrev pub closed_of : Receiver → Parsed → Stepped
-closed_of r (Sound address t) = record { next = counted_of r k.frames Idle; answer = answer.Frame address t (r.len - 6) }
-closed_of r (Dropped x) = quiet (counted_of r (counter_of x) Idle)
+-- closed ..: then Idle. A sound frame is handed out
+abbrev pub closed_of : Receiver → Result Head Tally → Stepped
+closed_of r (Ok h) = record { next = counted_of r k.frames Idle; answer = Ok (Some h) }
+closed_of r (Err x) = quiet (counted_of r (counter_of x) Idle)
 
 -- the refusal 12: nothing changes
 abbrev pub refused_of : Receiver → Stepped
-refused_of r = record { next = r; answer = refused_by over_limit }
+refused_of r = record { next = r; answer = refused_by over_limit None }
 
 -- 01: a reset sets all eight to 0 and keeps state and body
 unfoldable pub reset_of : Receiver → Stepped
 reset_of r = cond (too_long r) (refused_of r) (quiet (made_of r r.state r.body r.len zeros))
 
--- a runt and a checksum are counted and dropped; a sound body says its address and its type
-abbrev pub judged_of : Verdict → List ℕ → Parsed
-judged_of runt s = Dropped tally.Runts
-judged_of checksum s = Dropped tally.Checksums
-judged_of sound s = Sound (address_of (be16_at s 0)) (record { 0 = be16_at s 2 })
+-- a sound body says its address and its type, and its payload is six bytes shorter
+abbrev pub head_of : List ℕ → Head
+head_of s = record { address = address_of (be16_at s 0); frame_type = record { 0 = be16_at s 2 }; len = length s - 6 }
+
+-- a runt and a checksum are counted and dropped
+abbrev pub judged_of : Verdict → List ℕ → Result Head Tally
+judged_of runt s = Err tally.Runts
+judged_of checksum s = Err tally.Checksums
+judged_of sound s = Ok (head_of s)
 
 module _ (check : List ℕ → ℕ) where
   -- what a closed body comes to, by 01's verdict on it
-  unfoldable pub parsed_of : List ℕ → Parsed
+  unfoldable pub parsed_of : List ℕ → Result Head Tally
   parsed_of s = judged_of (verdict check s) s
 
   -- what a move makes of a receiver, and what is handed out

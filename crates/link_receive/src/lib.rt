@@ -34,13 +34,8 @@ pub fn open_frames(state: State) -> u64
     ensures { result ≡ open_of state }
 {
     match state {
-        State::Idle => 0,
-        State::Noise => 0,
-        State::StartOfFrame => 0,
-        State::Frame => 1,
-        State::FrameEscape => 1,
-        State::Giant => 0,
-        State::GiantEscape => 0,
+        State::Frame | State::FrameEscape => 1,
+        _ => 0,
     }
 }
 
@@ -82,43 +77,19 @@ impl Tallies {
         noise: 0,
     };
 
-    // One more of a tally.
+    // One more of a tally. Each is a field of its own by the form that is set for the lent tallies, so each has its arm.
     fn raised(mut self, tally: Tally) -> Tallies
         ensures { result ≡ raise (counter_of tally) self }
     {
         match tally {
-            Tally::Openings => {
-                let n = std::num::wrapping_add_u64(self.openings, 1);
-                self.openings = n;
-            }
-            Tally::Frames => {
-                let n = std::num::wrapping_add_u64(self.frames, 1);
-                self.frames = n;
-            }
-            Tally::Runts => {
-                let n = std::num::wrapping_add_u64(self.runts, 1);
-                self.runts = n;
-            }
-            Tally::Checksums => {
-                let n = std::num::wrapping_add_u64(self.checksums, 1);
-                self.checksums = n;
-            }
-            Tally::Giants => {
-                let n = std::num::wrapping_add_u64(self.giants, 1);
-                self.giants = n;
-            }
-            Tally::Escaped => {
-                let n = std::num::wrapping_add_u64(self.escaped, 1);
-                self.escaped = n;
-            }
-            Tally::Broken => {
-                let n = std::num::wrapping_add_u64(self.broken, 1);
-                self.broken = n;
-            }
-            Tally::Noise => {
-                let n = std::num::wrapping_add_u64(self.noise, 1);
-                self.noise = n;
-            }
+            Tally::Openings => self.openings = self.openings.wrapping_add(1),
+            Tally::Frames => self.frames = self.frames.wrapping_add(1),
+            Tally::Runts => self.runts = self.runts.wrapping_add(1),
+            Tally::Checksums => self.checksums = self.checksums.wrapping_add(1),
+            Tally::Giants => self.giants = self.giants.wrapping_add(1),
+            Tally::Escaped => self.escaped = self.escaped.wrapping_add(1),
+            Tally::Broken => self.broken = self.broken.wrapping_add(1),
+            Tally::Noise => self.noise = self.noise.wrapping_add(1),
         }
         self
     }
@@ -135,25 +106,21 @@ pub enum Move {
     Close,
 }
 
-// What a closed body is: a sound frame, or one that is counted and dropped.
+// A sound frame's head: its address, its type and how long its payload is. The payload is the first `len` bytes after the fourth of the body
+// handed back.
 #[derive(Clone, Copy)]
-pub enum Parsed {
-    Sound { address: Address, frame_type: Type },
-    Dropped(Tally),
+pub struct Head {
+    pub address: Address,
+    pub frame_type: Type,
+    pub len: usize,
 }
 
-// What a step or a feeding hands out. A frame's payload is the first `len` bytes after the fourth of the body handed back.
-// Refused is 12.
-#[derive(Clone, Copy)]
-pub enum Answer {
-    Nothing,
-    Frame {
-        address: Address,
-        frame_type: Type,
-        len: usize,
-    },
-    Refused,
-}
+// The refusal 12: a state with a length over its limit.
+#[derive(Clone, Copy, PartialEq, Eq)]
+pub struct OverLimit;
+
+// What a step or a feeding hands out: a frame, nothing, or the refusal.
+pub type Answer = Result<Option<Head>, OverLimit>;
 
 // The receiver: its state, the units of the open frame (the first `len` bytes of `body`), and the tallies. A field more goes behind them: the
 // claims of crates/promises/proofs/Walked.antt count the fields up to `tallies`.
@@ -210,6 +177,7 @@ impl Receiver {
     }
 
     // One byte. Refused by 12, with nothing changed, if the length is over the limit.
+    #[tactic(auto, unfolding(crate::specs::Step::step_of, crate::specs::Step::rules_of))]
     pub fn push_u8(mut self, b: u8) -> Stepped
         ensures { result ≡ step_of crc_of self b }
     {
@@ -217,35 +185,27 @@ impl Receiver {
         if Receiver::MAX_FRAME_SIZE < len {
             return Stepped {
                 next: self,
-                answer: Answer::Refused,
+                answer: Err(OverLimit),
             };
         }
-        let state = self.state;
-        match turn(state, len, b) {
-            Move::To(next) => {
-                self = to(self, next);
-            }
-            Move::Push(d) => {
-                self = pushed(self, d);
-            }
-            Move::Count(tally, next) => {
-                self = counted(self, tally, next);
-            }
+        match turn(self.state, len, b) {
+            Move::To(next) => self = to(self, next),
+            Move::Push(d) => self = pushed(self, d),
+            Move::Count(tally, next) => self = counted(self, tally, next),
             Move::Break => {
                 self = counted(self, Tally::Broken, State::Noise);
                 self = counted(self, Tally::Noise, State::Noise);
             }
-            Move::Close => {
-                return closed(self);
-            }
+            Move::Close => return closed(self),
         }
         Stepped {
             next: self,
-            answer: Answer::Nothing,
+            answer: Ok(None),
         }
     }
 
     // The eight tallies to 0; state and body stay. Refused by 12, with nothing changed, if the length is over the limit.
+    #[tactic(auto, unfolding(crate::specs::Step::reset_of, crate::specs::Step::rules_of))]
     pub fn reset_counters(mut self) -> Stepped
         ensures { result ≡ reset_of self }
     {
@@ -253,14 +213,13 @@ impl Receiver {
         if Receiver::MAX_FRAME_SIZE < len {
             return Stepped {
                 next: self,
-                answer: Answer::Refused,
+                answer: Err(OverLimit),
             };
         }
-        let zero = Tallies::ZERO;
-        self.tallies = zero;
+        self.tallies = Tallies::ZERO;
         Stepped {
             next: self,
-            answer: Answer::Nothing,
+            answer: Ok(None),
         }
     }
 }

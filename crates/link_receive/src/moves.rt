@@ -4,13 +4,13 @@ ghost use Rattle.crc.specs.Crc.{crc_of};
 ghost use Rattle.reading.specs.Grammar.{present};
 ghost use Rattle.link_receive.specs.Step.{turn_of, parsed_of};
 
-use crate::{Move, Parsed, Receiver, State, Tally};
+use crate::{Head, Move, Receiver, State, Tally};
 use address::Address;
-use escaping::Unescaped;
 use link::Type;
 use words::be16;
 
 // The byte after 7e inside a frame that holds `len` units.
+#[tactic(auto, unfolding(crate::specs::Step::turn_of, escaping::specs::Escapes::meaning))]
 fn turn_escaped(len: usize, b: u8) -> Move
     ensures { result ≡ turn_of present State.FrameEscape len b }
 {
@@ -18,18 +18,19 @@ fn turn_escaped(len: usize, b: u8) -> Move
         return Move::Close;
     }
     match escaping::unescaped_byte(b) {
-        Unescaped::Byte(d) => {
+        Ok(d) => {
             if len < Receiver::MAX_FRAME_SIZE {
                 Move::Push(d)
             } else {
                 Move::Count(Tally::Escaped, State::GiantEscape)
             }
         }
-        Unescaped::Invalid => Move::Break,
+        Err(_) => Move::Break,
     }
 }
 
 // What a byte asks for, in a state with `len` units held.
+#[tactic(auto, unfolding(crate::specs::Step::turn_of, escaping::specs::Escapes::meaning))]
 pub fn turn(state: State, len: usize, b: u8) -> Move
     ensures { result ≡ turn_of present state len b }
 {
@@ -71,25 +72,25 @@ pub fn turn(state: State, len: usize, b: u8) -> Move
     }
 }
 
-// The verdict on a closed body.
-pub fn parse_frame(body: &[u8]) -> Parsed
+// The verdict on a closed body: a sound frame's head, or the tally that one is counted in that is dropped.
+#[tactic(auto, unfolding(crate::specs::Step::parsed_of, reading::specs::Counts::verdict))]
+pub fn parse_frame(body: &[u8]) -> Result<Head, Tally>
     ensures { result ≡ parsed_of crc_of body.now }
 {
     let n = body.len();
     if n < 6 {
-        return Parsed::Dropped(Tally::Runts);
+        return Err(Tally::Runts);
     }
     let m = n - 2;
     let crc = crc::crc(&body[..m]);
     let expected = be16(body[n - 1], body[m]);
     if crc == expected {
-        let address = Address::from_u16(be16(body[0], body[1]));
-        let frame_type = be16(body[2], body[3]);
-        Parsed::Sound {
-            address: address,
-            frame_type: Type(frame_type),
-        }
+        Ok(Head {
+            address: Address::from(be16(body[0], body[1])),
+            frame_type: Type(be16(body[2], body[3])),
+            len: n - 6,
+        })
     } else {
-        Parsed::Dropped(Tally::Checksums)
+        Err(Tally::Checksums)
     }
 }

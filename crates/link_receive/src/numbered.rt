@@ -2,9 +2,10 @@
 ghost use Rattle.std.specs.Prelude.{◌≡◌};
 ghost use Rattle.link_receive.specs.Numbered.{state_at, state_number, receiver_at, numbers_told};
 
-use crate::{Answer, Receiver, State, Tallies};
+use crate::{OverLimit, Receiver, State, Tallies};
 
-// The state of a number; any number above 5 stands for the last.
+// The state of a number; any number above 5 stands for the last, which `State::from` at a call would not show.
+#[tactic(auto, unfolding(crate::specs::Numbered::state_at))]
 pub fn state_at(n: u64) -> State
     ensures { result ≡ state_at n }
 {
@@ -35,13 +36,13 @@ pub fn state_number(s: State) -> u64
 }
 
 // The receiver that ten numbers and a body say.
+#[tactic(auto, unfolding(crate::specs::Numbered::tallies_at))]
 pub fn receiver_at(numbers: [u64; Receiver::NUMBERS], body: [u8; Receiver::ROOM]) -> Receiver
     ensures { result ≡ receiver_at numbers body }
 {
-    let state = state_at(numbers[0]);
     Receiver {
-        state: state,
-        body: body,
+        state: state_at(numbers[0]),
+        body,
         len: numbers[1] as usize,
         tallies: Tallies {
             openings: numbers[2],
@@ -56,30 +57,19 @@ pub fn receiver_at(numbers: [u64; Receiver::NUMBERS], body: [u8; Receiver::ROOM]
     }
 }
 
-// Ten numbers of a receiver, or the refusal.
-#[derive(Clone, Copy)]
-pub struct Numbers {
-    pub numbers: [u64; Receiver::NUMBERS],
-    pub answer: Answer,
-}
-
-// The ten numbers of a receiver. Refused by 12, with ten zeros in their place, if its length is over the limit.
-pub fn numbers_of(r: Receiver) -> Numbers
+// The ten numbers of a receiver. Refused by 12 if its length is over the limit.
+#[tactic(auto, unfolding(crate::specs::Numbered::numbers_told, crate::specs::Step::rules_of))]
+pub fn numbers_of(r: Receiver) -> Result<[u64; Receiver::NUMBERS], OverLimit>
     ensures { result ≡ numbers_told r }
 {
-    let len = r.len;
-    if Receiver::MAX_FRAME_SIZE < len {
-        return Numbers {
-            numbers: [0; Receiver::NUMBERS],
-            answer: Answer::Refused,
-        };
+    if Receiver::MAX_FRAME_SIZE < r.len {
+        return Err(OverLimit);
     }
-    let state = r.state;
+    let n = state_number(r.state);
     let t = r.tallies;
-    let n = state_number(state);
-    let numbers = [
+    Ok([
         n,
-        len as u64,
+        r.len as u64,
         t.openings,
         t.frames,
         t.runts,
@@ -88,9 +78,5 @@ pub fn numbers_of(r: Receiver) -> Numbers
         t.escaped,
         t.broken,
         t.noise,
-    ];
-    Numbers {
-        numbers: numbers,
-        answer: Answer::Nothing,
-    }
+    ])
 }

@@ -1,7 +1,7 @@
 -- The packets of a packet area, and the walk that meets them one after another. Assumes nothing.
-use Rattle.std.specs.Prelude.{◌≡◌, ℕ, zero, suc, ◌+◌, ◌-◌, ◌<◌, cond, List, [], ◌∷◌, ◌++◌, length, take, drop, ◌==◌, nat_le, nat_lt, slice_index, slice_index_or, slice_range}
-use Rattle.network.specs.declared.Found.{Found}
-use Rattle.network.specs.declared.Found.TheVariants.{Packet, TooShort, Finished}
+use Rattle.std.specs.Prelude.{◌≡◌, ℕ, zero, suc, ◌+◌, ◌-◌, ◌<◌, cond, not, List, [], ◌∷◌, ◌++◌, length, take, drop, ◌==◌, nat_le, nat_lt, slice_index, slice_index_or, slice_range, Option, Some, None, Result, Ok, Err}
+use Rattle.network.specs.declared.Packet.{Packet}
+use Rattle.network.specs.declared.PacketTooShort.{PacketTooShort}
 use Rattle.network.specs.declared.Tally.{Tally}
 
 -- network.rs, `ReceivedPacketHeader`: packet type (1), node address (2), short address (2), dsn (1), data length (1)
@@ -50,19 +50,31 @@ pub record Divides (a : List ℕ) (s : Split) : Type 0 where
   pub whole : (i : ℕ) → i < length s.packets → Whole (slice_index_or s.packets i [])
   pub short : length s.rest < packet_size s.rest
 
+-- what stands in the area at a place: a whole packet, or too few bytes for one, or nothing ..
+abbrev pub Found : Type 0
+Found = Option (Result Packet PacketTooShort)
+
+-- .. a packet whose data starts and ends at these places ..
+abbrev pub found_packet : ℕ → ℕ → Found
+found_packet d e = Some (Ok (record { data_at = d; end = e }))
+
+-- .. too few bytes
+abbrev pub found_short : Found
+found_short = Some (Err (record {}))
+
 -- what stands in the area at a place: nothing at the end or past it, else a whole packet, or too few bytes for one
 unfoldable pub found_at : List ℕ → ℕ → Found
 found_at a at =
     cond (nat_lt at (length a))
-    (cond (nat_le (packet_size (drop at a)) (length (drop at a))) (Packet (at + header_size) (at + packet_size (drop at a))) TooShort)
-    Finished
+    (cond (nat_le (packet_size (drop at a)) (length (drop at a))) (found_packet (at + header_size) (at + packet_size (drop at a))) found_short)
+    None
 
 -- a walk from a place: on past each packet found, up to the end or the place where too few bytes are left
 pub data Walk (a : List ℕ) : ℕ → Split → Type 0 where
-  finished : {at : ℕ} → found_at a at ≡ Finished → Walk a at (record { packets = []; rest = [] })
-  too_short : {at : ℕ} → found_at a at ≡ TooShort → Walk a at (record { packets = []; rest = drop at a })
-  packet : {at d e : ℕ} {s : Split} → found_at a at ≡ Packet d e → Walk a e s → Walk a at (put (slice_range a at e) s)
+  finished : {at : ℕ} → found_at a at ≡ None → Walk a at (record { packets = []; rest = [] })
+  too_short : {at : ℕ} → found_at a at ≡ found_short → Walk a at (record { packets = []; rest = drop at a })
+  packet : {at d e : ℕ} {s : Split} → found_at a at ≡ found_packet d e → Walk a e s → Walk a at (put (slice_range a at e) s)
 
--- the counts that the transport step raises: whole packets, and 1 if bytes are left
+-- what the transport step counts: whole packets, and whether bytes are left
 unfoldable pub tally_of : List ℕ → Tally
-tally_of a = record { packets = length (packets_of a).packets; short = cond (length (packets_of a).rest == 0) 0 1 }
+tally_of a = record { packets = length (packets_of a).packets; short = not (length (packets_of a).rest == 0) }

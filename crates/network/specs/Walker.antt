@@ -1,21 +1,14 @@
 -- The walker over a packet area. Assumes nothing.
-use Rattle.std.specs.Prelude.{◌≡◌, ℕ, zero, suc, ◌+◌, cond, List, [], ◌∷◌, length, ◌==◌}
-use Rattle.network.specs.declared.Found.{Found}
-use Rattle.network.specs.declared.Found.TheVariants.{Packet, TooShort, Finished}
-use Rattle.network.specs.declared.received_packets.Sight.{Sight}
+use Rattle.std.specs.Prelude.{◌≡◌, ℕ, zero, suc, ◌+◌, cond, List, [], ◌∷◌, length, ◌==◌, Some, None, Ok, Err}
 use Rattle.network.specs.declared.received_packets.ReceivedPackets.{ReceivedPackets}
-use Rattle.network.specs.Split.{header_size, found_at}
+use Rattle.network.specs.Split.{header_size, Found, found_packet, found_short, found_at}
 
 -- 01, "Transport": a walker over it keeps its place between packets. Behind a packet it goes on; after too few bytes it is at the area's end, and a
 -- finished walker stays where it is
 abbrev pub place_after : List ℕ → ℕ → Found → ℕ
-place_after a at (Packet d e) = e
-place_after a at TooShort = length a
-place_after a at Finished = at
-
--- what a walker at a place tells, and the place where it goes on
-abbrev pub sight_at : List ℕ → ℕ → Sight
-sight_at a at = record { found = found_at a at; at = place_after a at (found_at a at) }
+place_after a at (Some (Ok p)) = p.end
+place_after a at (Some (Err e)) = length a
+place_after a at None = at
 
 -- the walker over the same area, at the place where it goes on
 abbrev pub moved_on : ReceivedPackets → ReceivedPackets
@@ -33,11 +26,11 @@ pub data Nexts : ReceivedPackets → List Found → ReceivedPackets → Type 0 w
 
 -- what a walk tells of an area that is split from a place on: each packet once, in order, and then one 'too short' exactly if bytes are left
 abbrev pub told_of : ℕ → List (List ℕ) → List ℕ → List Found
-told_of at [] rest = cond (length rest == 0) [] (TooShort ∷ [])
-told_of at (p ∷ ps) rest = Packet (at + header_size) (at + length p) ∷ told_of (at + length p) ps rest
+told_of at [] rest = cond (length rest == 0) [] (found_short ∷ [])
+told_of at (p ∷ ps) rest = found_packet (at + header_size) (at + length p) ∷ told_of (at + length p) ps rest
 
 -- the first n of what is told; after all of it, finished forever
 abbrev pub first_told : ℕ → List Found → List Found
 first_told zero fs = []
-first_told (suc n) [] = Finished ∷ first_told n []
+first_told (suc n) [] = None ∷ first_told n []
 first_told (suc n) (f ∷ fs) = f ∷ first_told n fs

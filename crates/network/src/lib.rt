@@ -5,7 +5,7 @@ ghost use Rattle.std.specs.Prelude.{◌≡◌, ◌+◌, ◌%◌};
 ghost use Rattle.network.specs.Split.{found_at, tally_of};
 ghost use Rattle.network.specs.Nodes.{node_of, address_of, successor_of, header_of};
 
-use words::be16;
+use std::ops::Add;
 
 mod received_packets;
 
@@ -27,13 +27,14 @@ pub struct LongAddress(pub [u8; 8]);
 #[derive(Clone, Copy)]
 pub struct DSN(pub u8);
 
-impl DSN {
-    // The number so many further on. Addition wraps.
-    pub fn add(self, rhs: u8) -> DSN
-        ensures { result.0 ≡ (self.0 + rhs) % 256 }
-    {
-        let dsn = self.0;
-        DSN(std::num::wrapping_add_u8(dsn, rhs))
+// The number so many further on. Addition wraps.
+impl Add<u8> for DSN {
+    type Output = DSN;
+
+    ghost add_gives = { λ dsn rhs result. result.0 ≡ (dsn.0 + rhs) % 256 };
+
+    fn add(self, rhs: u8) -> DSN {
+        DSN(self.0.wrapping_add(rhs))
     }
 }
 
@@ -41,33 +42,20 @@ impl DSN {
 #[derive(Clone, Copy)]
 pub struct NodeID(u16);
 
-// A node's ID, or none: 0.
-#[derive(Clone, Copy)]
-pub enum Node {
-    ID(NodeID),
-    Zero,
-}
-
-// The ID after another, or none: the other is the last.
-#[derive(Clone, Copy)]
-pub enum Successor {
-    Next(NodeID),
-    Last,
-}
-
 impl NodeID {
     pub const GATEWAY: Self = NodeID(1);
 
     pub const MAX: Self = NodeID(65535);
 
-    // The ID of a number. 0 is none.
-    pub fn try_from(value: u16) -> Node
+    // The ID of a number, which 0 has not.
+    #[tactic(auto, unfolding(crate::specs::Nodes::node_of))]
+    pub fn new(value: u16) -> Option<NodeID>
         ensures { result ≡ node_of value }
     {
         if value == 0 {
-            return Node::Zero;
+            return None;
         }
-        Node::ID(NodeID(value))
+        Some(NodeID(value))
     }
 
     pub fn get(self) -> u16
@@ -76,14 +64,16 @@ impl NodeID {
         self.0
     }
 
-    pub fn successor(self) -> Successor
+    // The ID after this one, which the last has not.
+    #[tactic(auto, unfolding(crate::specs::Nodes::successor_of))]
+    pub fn successor(self) -> Option<NodeID>
         ensures { result ≡ successor_of self.0 }
     {
         let id = self.0;
         if id < 65535 {
-            Successor::Next(NodeID(id + 1))
+            Some(NodeID(id + 1))
         } else {
-            Successor::Last
+            None
         }
     }
 }
@@ -96,28 +86,34 @@ impl NodeAddress {
     pub const ZERO: Self = NodeAddress(0);
 
     pub const GATEWAY: Self = NodeAddress(1);
+}
 
-    // The node that the address names.
-    pub fn node(self) -> Node
-        ensures { result ≡ node_of self.0 }
-    {
-        NodeID::try_from(self.0)
+// The node that an address names.
+impl From<NodeAddress> for Option<NodeID> {
+    ghost from_gives = { λ address result. result ≡ node_of address.0 };
+
+    fn from(address: NodeAddress) -> Option<NodeID> {
+        NodeID::new(address.0)
     }
+}
 
-    // The address of a node, or of none.
-    pub fn from_node(node: Node) -> NodeAddress
-        ensures { result.0 ≡ address_of node }
-    {
+// The address of a node, or of none.
+impl From<Option<NodeID>> for NodeAddress {
+    ghost from_gives = { λ node result. result.0 ≡ address_of node };
+
+    fn from(node: Option<NodeID>) -> NodeAddress {
         match node {
-            Node::ID(id) => NodeAddress(id.0),
-            Node::Zero => NodeAddress(0),
+            Some(id) => NodeAddress::from(id),
+            None => NodeAddress::ZERO,
         }
     }
+}
 
-    // The address of a node ID.
-    pub fn from_id(id: NodeID) -> NodeAddress
-        ensures { result.0 ≡ id.0 }
-    {
+// The address of a node ID.
+impl From<NodeID> for NodeAddress {
+    ghost from_gives = { λ id result. result.0 ≡ id.0 };
+
+    fn from(id: NodeID) -> NodeAddress {
         NodeAddress(id.0)
     }
 }
@@ -132,24 +128,22 @@ pub struct ReceivedPacketHeader {
     pub data_length: u8,
 }
 
-// What `ReceivedPacketHeader::read` gives: a header, or too few bytes for one.
-#[derive(Clone, Copy)]
-pub enum HeaderRead {
-    Header(ReceivedPacketHeader),
-    HeaderTooShort,
-}
+// Too few bytes for a packet's header, or for the data that the header says.
+#[derive(Clone, Copy, PartialEq, Eq)]
+pub struct PacketTooShort;
 
 impl ReceivedPacketHeader {
     // The header of the packet that starts with `packet`'s first byte.
-    pub fn read(packet: &[u8]) -> HeaderRead
+    #[tactic(auto, unfolding(crate::specs::Nodes::header_of))]
+    pub fn read(packet: &[u8]) -> Result<ReceivedPacketHeader, PacketTooShort>
         ensures { result ≡ header_of packet.now }
     {
         if packet.len() < 7 {
-            return HeaderRead::HeaderTooShort;
+            return Err(PacketTooShort);
         }
-        let node_address = be16(packet[1], packet[2]);
-        let short_address = be16(packet[3], packet[4]);
-        HeaderRead::Header(ReceivedPacketHeader {
+        let node_address = u16::from_be_bytes([packet[1], packet[2]]);
+        let short_address = u16::from_be_bytes([packet[3], packet[4]]);
+        Ok(ReceivedPacketHeader {
             packet_type: PacketType(packet[0]),
             node_address: NodeAddress(node_address),
             short_address: ShortAddress(short_address),
@@ -159,69 +153,58 @@ impl ReceivedPacketHeader {
     }
 }
 
-// What stands at a place of a packet area.
+// A whole packet of an area: its header up to `data_at`, its data from there up to `end`.
 #[derive(Clone, Copy)]
-pub enum Found {
-    // A whole packet: its header up to `data_at`, its data from there up to `end`.
-    Packet { data_at: usize, end: usize },
-    // Bytes, and too few for the packet that they begin. A walk is finished after this.
-    TooShort,
-    // No byte.
-    Finished,
+pub struct Packet {
+    pub data_at: usize,
+    pub end: usize,
 }
 
-// How many whole packets an area has, and whether it ends too short (1) or not (0).
+// How many whole packets an area has, and whether it ends too short.
 #[derive(Clone, Copy)]
 pub struct Tally {
     pub packets: u64,
-    pub short: u64,
+    pub short: bool,
 }
 
-// What stands in `area` at `at`. A place past the area is finished.
-pub fn packet_at(area: &[u8], at: usize) -> Found
+// What stands in `area` at `at`: a whole packet, or bytes that are too few for the packet that they begin, or no byte. A place past the area
+// has none.
+#[tactic(auto, unfolding(crate::specs::Split::found_at))]
+pub fn packet_at(area: &[u8], at: usize) -> Option<Result<Packet, PacketTooShort>>
     ensures { result ≡ found_at area.now at }
 {
     if area.len() <= at {
-        return Found::Finished;
+        return None;
     }
     let left = area.len() - at;
     if left < 7 {
-        return Found::TooShort;
+        return Some(Err(PacketTooShort));
     }
     let size = 7 + area[at + 6] as usize;
     if left < size {
-        return Found::TooShort;
+        return Some(Err(PacketTooShort));
     }
     let data_at = at + 7;
     let end = at + size;
-    Found::Packet { data_at, end }
+    Some(Ok(Packet { data_at, end }))
 }
 
 // The packets of an area, counted.
 pub fn counts(area: &[u8]) -> Tally
     ensures { result ≡ tally_of area.now }
 {
-    let mut n: u64 = 0;
-    let mut at: usize = 0;
-    loop {
-        let f = packet_at(area, at);
-        match f {
-            Found::Finished => {
-                return Tally {
-                    packets: n,
-                    short: 0,
-                };
-            }
-            Found::TooShort => {
-                return Tally {
-                    packets: n,
-                    short: 1,
-                };
-            }
-            Found::Packet { data_at: _, end } => {
-                n += 1;
-                at = end;
-            }
+    let mut packets: u64 = 0;
+    for packet in ReceivedPackets::new(area) {
+        match packet {
+            Ok(_) => packets += 1,
+            Err(PacketTooShort) => return Tally {
+                packets,
+                short: true,
+            },
         }
+    }
+    Tally {
+        packets,
+        short: false,
     }
 }

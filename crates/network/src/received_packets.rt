@@ -1,37 +1,9 @@
 // The walker over a packet area (pv/network.rs, `ReceivedPackets`): it holds the area and keeps its place between packets.
-ghost use Rattle.std.specs.Prelude.{◌≡◌};
-ghost use Rattle.network.specs.Walker.{sight_at, Next};
+ghost use Rattle.std.specs.Prelude.{◌≡◌, ◌-◌, length};
+ghost use Rattle.std.specs.Iterator.{at_most};
+ghost use Rattle.network.specs.Walker.{Next};
 
-use crate::Found;
-
-// What stands at a place, and the place where the walker goes on.
-#[derive(Clone, Copy)]
-struct Sight {
-    found: Found,
-    at: usize,
-}
-
-// What stands in `area` at `at`: behind a packet the walker goes on; too few bytes bring it to the area's end; a finished one stays.
-fn look(area: &[u8], at: usize) -> Sight
-    ensures { result ≡ sight_at area.now at }
-{
-    let n = area.len();
-    let found = crate::packet_at(area, at);
-    match found {
-        Found::Packet { data_at: _, end } => Sight {
-            found: found,
-            at: end,
-        },
-        Found::TooShort => Sight {
-            found: found,
-            at: n,
-        },
-        Found::Finished => Sight {
-            found: found,
-            at: at,
-        },
-    }
-}
+use crate::{Packet, PacketTooShort};
 
 // A packet area, and a place in it.
 #[derive(Drop)]
@@ -47,13 +19,23 @@ impl<'a> ReceivedPackets<'a> {
     {
         ReceivedPackets { area, at: 0 }
     }
+}
 
-    // What stands at the walker's place, which it leaves behind.
-    pub fn next(&mut self) -> Found
-        ensures { Next self.old result self.new }
-    {
-        let x = look(self.area, self.at);
-        self.at = x.at;
-        x.found
+// What stands at the walker's place, which it leaves behind: behind a packet it goes on; too few bytes bring it to the area's end; a finished
+// one stays.
+impl<'a> Iterator for ReceivedPackets<'a> {
+    type Item = Result<Packet, PacketTooShort>;
+
+    ghost next_gives = { Next };
+
+    ghost remaining = { λ w. at_most (length w.area.now - w.at) };
+
+    fn next(&mut self) -> Option<Result<Packet, PacketTooShort>> {
+        let found = crate::packet_at(self.area, self.at)?;
+        self.at = match found {
+            Ok(packet) => packet.end,
+            Err(_) => self.area.len(),
+        };
+        Some(found)
     }
 }

@@ -8,6 +8,11 @@ use Rattle.promises.specs.Determined.{Determined}
 use Rattle.escaping.proofs.Answers.{handed_byte-same, handed_length-same, handed_written-same}
 use Rattle.address.proofs.Laws.{handed_id-same, handed_number-same, handed_bytes-same}
 use Rattle.link.proofs.Answers.{handed-same}
+use Rattle.link.specs.Handed.{refusal_of}
+use Rattle.link.specs.declared.EncodeError.{EncodeError}
+use Rattle.laws.specs.Numbers.{refused_as}
+use Rattle.std.specs.Prelude.{Result, Err}
+use Rattle.sound_record.proofs.Numbers.{numbered-same}
 use Rattle.event_record.proofs.Told.{handed-apart}
 use Prim.Native.Nat.{ℕ}
 use mathlib.Core.List.{List}
@@ -18,20 +23,22 @@ use contract.Lifetimes.{Lfts}
 use denote.Triple.Clauses.{Lasts, at_exit}
 use borrow.Fn.Kinds.{Dens, res_t, ended_of}
 use Rattle.crc.specs.Crc.{crc_of}
+use Rattle.address.specs.declared.GatewayID.{GatewayID}
 use Rattle.network.specs.declared.DSN.{DSN}
 use Rattle.network.specs.declared.NodeAddress.{NodeAddress}
 use Rattle.network.specs.declared.received_packets.ReceivedPackets.{ReceivedPackets}
 use Rattle.slot_counter.specs.declared.SlotCounter.{SlotCounter}
+use Rattle.slot_counter.specs.declared.SlotEpoch.{SlotEpoch}
 use Rattle.transport.specs.declared.PacketNumber.{PacketNumber}
 use Rattle.receive_frames.specs.Receive.{Asked, Received}
 use Rattle.command_frames.specs.Command.{Requested, Answered}
 use Rattle.plain_frames.specs.Plain.{Counted}
-use Rattle.transport_receiver.specs.declared.Stepped.{Stepped}
+use Rattle.transport_receiver.specs.Lent.{Stepped, WasReset}
 use Rattle.link_receive.specs.declared.Stepped as by_byte
 use Rattle.link_receive.specs.declared.Tallies.{Tallies}
 use Rattle.link_feed.specs.declared.Fed.{Fed}
 use Rattle.reading.specs.Grammar.{present}
-use Rattle.console.specs.Text.{Text}
+use Rattle.console.specs.declared.text.Output.{Output}
 use Rattle.promises.proofs.Ledgers.{ledgered-once}
 use Rattle.crc.proofs.crc.Kinds as crc-crc-kinds
 use Rattle.crc.proofs.crc.Reads as crc-crc-reads
@@ -41,16 +48,24 @@ use Rattle.escaping.proofs.escape.Kinds as escaping-escape-kinds
 use Rattle.escaping.proofs.escape.Reads as escaping-escape-reads
 use Rattle.escaping.proofs.unescaped_byte.Kinds as escaping-unescaped_byte-kinds
 use Rattle.escaping.proofs.unescaped_byte.Reads as escaping-unescaped_byte-reads
-use Rattle.address.proofs.GatewayID.new.Kinds as address-GatewayID-new-kinds
-use Rattle.address.proofs.GatewayID.new.Reads as address-GatewayID-new-reads
-use Rattle.address.proofs.Address.from_u16.Kinds as address-Address-from_u16-kinds
-use Rattle.address.proofs.Address.from_u16.Reads as address-Address-from_u16-reads
-use Rattle.address.proofs.Address.to_u16.Kinds as address-Address-to_u16-kinds
-use Rattle.address.proofs.Address.to_u16.Reads as address-Address-to_u16-reads
+use Rattle.address.proofs.GatewayIDTryFromU16.try_from.Kinds as address-GatewayID-try_from-kinds
+use Rattle.address.proofs.GatewayIDTryFromU16.try_from.Reads as address-GatewayID-try_from-reads
+use Rattle.address.proofs.AddressFromU16.from.Kinds as address-Address-from-kinds
+use Rattle.address.proofs.AddressFromU16.from.Reads as address-Address-from-reads
+use Rattle.address.proofs.U16TryFromAddress.try_from.Kinds as address-u16-try_from-kinds
+use Rattle.address.proofs.U16TryFromAddress.try_from.Reads as address-u16-try_from-reads
+use Rattle.address.proofs.Address.gateway.Kinds as address-Address-gateway-kinds
+use Rattle.address.proofs.Address.gateway.Reads as address-Address-gateway-reads
+use Rattle.address.proofs.Address.is_from.Kinds as address-Address-is_from-kinds
+use Rattle.address.proofs.Address.is_from.Reads as address-Address-is_from-reads
 use Rattle.address.proofs.Address.from_be_bytes.Kinds as address-Address-from_be_bytes-kinds
 use Rattle.address.proofs.Address.from_be_bytes.Reads as address-Address-from_be_bytes-reads
 use Rattle.address.proofs.Address.to_be_bytes.Kinds as address-Address-to_be_bytes-kinds
 use Rattle.address.proofs.Address.to_be_bytes.Reads as address-Address-to_be_bytes-reads
+use Rattle.link.proofs.EncodeErrorFromInvalidGatewayID.from.Kinds as link-EncodeError-from_id-kinds
+use Rattle.link.proofs.EncodeErrorFromInvalidGatewayID.from.Reads as link-EncodeError-from_id-reads
+use Rattle.link.proofs.EncodeErrorFromEscapeError.from.Kinds as link-EncodeError-from_escape-kinds
+use Rattle.link.proofs.EncodeErrorFromEscapeError.from.Reads as link-EncodeError-from_escape-reads
 use Rattle.link.proofs.encode.Kinds as link-encode-kinds
 use Rattle.link.proofs.encode.Reads as link-encode-reads
 use Rattle.link_receive.proofs.open_frames.Kinds as link_receive-open_frames-kinds
@@ -97,20 +112,20 @@ use Rattle.utf8.proofs.is_utf8.Kinds as utf8-is_utf8-kinds
 use Rattle.utf8.proofs.is_utf8.Reads as utf8-is_utf8-reads
 use Rattle.utf8.proofs.is_text.Kinds as utf8-is_text-kinds
 use Rattle.utf8.proofs.is_text.Reads as utf8-is_text-reads
-use Rattle.network.proofs.DSN.add.Kinds as network-DSN-add-kinds
-use Rattle.network.proofs.DSN.add.Reads as network-DSN-add-reads
-use Rattle.network.proofs.NodeID.try_from.Kinds as network-NodeID-try_from-kinds
-use Rattle.network.proofs.NodeID.try_from.Reads as network-NodeID-try_from-reads
+use Rattle.network.proofs.DSNAddU8.add.Kinds as network-DSN-add-kinds
+use Rattle.network.proofs.DSNAddU8.add.Reads as network-DSN-add-reads
+use Rattle.network.proofs.NodeID.new.Kinds as network-NodeID-new-kinds
+use Rattle.network.proofs.NodeID.new.Reads as network-NodeID-new-reads
 use Rattle.network.proofs.NodeID.get.Kinds as network-NodeID-get-kinds
 use Rattle.network.proofs.NodeID.get.Reads as network-NodeID-get-reads
 use Rattle.network.proofs.NodeID.successor.Kinds as network-NodeID-successor-kinds
 use Rattle.network.proofs.NodeID.successor.Reads as network-NodeID-successor-reads
-use Rattle.network.proofs.NodeAddress.node.Kinds as network-NodeAddress-node-kinds
-use Rattle.network.proofs.NodeAddress.node.Reads as network-NodeAddress-node-reads
-use Rattle.network.proofs.NodeAddress.from_node.Kinds as network-NodeAddress-from_node-kinds
-use Rattle.network.proofs.NodeAddress.from_node.Reads as network-NodeAddress-from_node-reads
-use Rattle.network.proofs.NodeAddress.from_id.Kinds as network-NodeAddress-from_id-kinds
-use Rattle.network.proofs.NodeAddress.from_id.Reads as network-NodeAddress-from_id-reads
+use Rattle.network.proofs.OptionNodeIDFromNodeAddress.from.Kinds as network-NodeAddress-node-kinds
+use Rattle.network.proofs.OptionNodeIDFromNodeAddress.from.Reads as network-NodeAddress-node-reads
+use Rattle.network.proofs.NodeAddressFromOptionNodeID.from.Kinds as network-NodeAddress-from_node-kinds
+use Rattle.network.proofs.NodeAddressFromOptionNodeID.from.Reads as network-NodeAddress-from_node-reads
+use Rattle.network.proofs.NodeAddressFromNodeID.from.Kinds as network-NodeAddress-from_id-kinds
+use Rattle.network.proofs.NodeAddressFromNodeID.from.Reads as network-NodeAddress-from_id-reads
 use Rattle.network.proofs.ReceivedPacketHeader.read.Kinds as network-ReceivedPacketHeader-read-kinds
 use Rattle.network.proofs.ReceivedPacketHeader.read.Reads as network-ReceivedPacketHeader-read-reads
 use Rattle.network.proofs.packet_at.Kinds as network-packet_at-kinds
@@ -119,18 +134,22 @@ use Rattle.network.proofs.counts.Kinds as network-counts-kinds
 use Rattle.network.proofs.counts.Reads as network-counts-reads
 use Rattle.network.proofs.received_packets.ReceivedPackets.new.Kinds as network-ReceivedPackets-new-kinds
 use Rattle.network.proofs.received_packets.ReceivedPackets.new.Reads as network-ReceivedPackets-new-reads
-use Rattle.network.proofs.received_packets.ReceivedPackets.next.Kinds as network-ReceivedPackets-next-kinds
-use Rattle.network.proofs.received_packets.ReceivedPackets.next.Reads as network-ReceivedPackets-next-reads
-use Rattle.slot_counter.proofs.SlotNumber.try_from.Kinds as slot_counter-SlotNumber-try_from-kinds
-use Rattle.slot_counter.proofs.SlotNumber.try_from.Reads as slot_counter-SlotNumber-try_from-reads
+use Rattle.network.proofs.received_packets.ReceivedPacketsIterator.next.Kinds as network-ReceivedPackets-next-kinds
+use Rattle.network.proofs.received_packets.ReceivedPacketsIterator.next.Reads as network-ReceivedPackets-next-reads
+use Rattle.slot_counter.proofs.SlotNumberTryFromU16.try_from.Kinds as slot_counter-SlotNumber-try_from-kinds
+use Rattle.slot_counter.proofs.SlotNumberTryFromU16.try_from.Reads as slot_counter-SlotNumber-try_from-reads
 use Rattle.slot_counter.proofs.SlotNumber.get.Kinds as slot_counter-SlotNumber-get-kinds
 use Rattle.slot_counter.proofs.SlotNumber.get.Reads as slot_counter-SlotNumber-get-reads
+use Rattle.slot_counter.proofs.U16FromSlotNumber.from.Kinds as slot_counter-u16-from-kinds
+use Rattle.slot_counter.proofs.U16FromSlotNumber.from.Reads as slot_counter-u16-from-reads
+use Rattle.slot_counter.proofs.SlotEpoch.at.Kinds as slot_counter-SlotEpoch-at-kinds
+use Rattle.slot_counter.proofs.SlotEpoch.at.Reads as slot_counter-SlotEpoch-at-reads
 use Rattle.slot_counter.proofs.SlotEpoch.index.Kinds as slot_counter-SlotEpoch-index-kinds
 use Rattle.slot_counter.proofs.SlotEpoch.index.Reads as slot_counter-SlotEpoch-index-reads
-use Rattle.slot_counter.proofs.SlotEpoch.add.Kinds as slot_counter-SlotEpoch-add-kinds
-use Rattle.slot_counter.proofs.SlotEpoch.add.Reads as slot_counter-SlotEpoch-add-reads
-use Rattle.slot_counter.proofs.SlotEpoch.add_assign.Kinds as slot_counter-SlotEpoch-add_assign-kinds
-use Rattle.slot_counter.proofs.SlotEpoch.add_assign.Reads as slot_counter-SlotEpoch-add_assign-reads
+use Rattle.slot_counter.proofs.SlotEpochAddU8.add.Kinds as slot_counter-SlotEpoch-add-kinds
+use Rattle.slot_counter.proofs.SlotEpochAddU8.add.Reads as slot_counter-SlotEpoch-add-reads
+use Rattle.slot_counter.proofs.SlotEpochAddAssignU8.add_assign.Kinds as slot_counter-SlotEpoch-add_assign-kinds
+use Rattle.slot_counter.proofs.SlotEpochAddAssignU8.add_assign.Reads as slot_counter-SlotEpoch-add_assign-reads
 use Rattle.slot_counter.proofs.SlotCounter.new.Kinds as slot_counter-SlotCounter-new-kinds
 use Rattle.slot_counter.proofs.SlotCounter.new.Reads as slot_counter-SlotCounter-new-reads
 use Rattle.slot_counter.proofs.SlotCounter.from_be_bytes.Kinds as slot_counter-SlotCounter-from_be_bytes-kinds
@@ -147,16 +166,26 @@ use Rattle.transport.proofs.needed.Kinds as transport-needed-kinds
 use Rattle.transport.proofs.needed.Reads as transport-needed-reads
 use Rattle.transport.proofs.interpret_packet_number_lo.Kinds as transport-interpret_packet_number_lo-kinds
 use Rattle.transport.proofs.interpret_packet_number_lo.Reads as transport-interpret_packet_number_lo-reads
+use Rattle.layouts.proofs.CommandRequest.fields.Kinds as layouts-CommandRequest-fields-kinds
+use Rattle.layouts.proofs.CommandRequest.fields.Reads as layouts-CommandRequest-fields-reads
 use Rattle.layouts.proofs.CommandRequest.read.Kinds as layouts-CommandRequest-read-kinds
 use Rattle.layouts.proofs.CommandRequest.read.Reads as layouts-CommandRequest-read-reads
+use Rattle.layouts.proofs.CommandResponse.fields.Kinds as layouts-CommandResponse-fields-kinds
+use Rattle.layouts.proofs.CommandResponse.fields.Reads as layouts-CommandResponse-fields-reads
 use Rattle.layouts.proofs.CommandResponse.read.Kinds as layouts-CommandResponse-read-kinds
 use Rattle.layouts.proofs.CommandResponse.read.Reads as layouts-CommandResponse-read-reads
+use Rattle.layouts.proofs.ReceiveRequest.fields.Kinds as layouts-ReceiveRequest-fields-kinds
+use Rattle.layouts.proofs.ReceiveRequest.fields.Reads as layouts-ReceiveRequest-fields-reads
 use Rattle.layouts.proofs.ReceiveRequest.read.Kinds as layouts-ReceiveRequest-read-kinds
 use Rattle.layouts.proofs.ReceiveRequest.read.Reads as layouts-ReceiveRequest-read-reads
+use Rattle.layouts.proofs.IdentifyResponse.fields.Kinds as layouts-IdentifyResponse-fields-kinds
+use Rattle.layouts.proofs.IdentifyResponse.fields.Reads as layouts-IdentifyResponse-fields-reads
 use Rattle.layouts.proofs.IdentifyResponse.read.Kinds as layouts-IdentifyResponse-read-kinds
 use Rattle.layouts.proofs.IdentifyResponse.read.Reads as layouts-IdentifyResponse-read-reads
 use Rattle.layouts.proofs.IdentifyResponse.gateway_id.Kinds as layouts-IdentifyResponse-gateway_id-kinds
 use Rattle.layouts.proofs.IdentifyResponse.gateway_id.Reads as layouts-IdentifyResponse-gateway_id-reads
+use Rattle.layouts.proofs.EnumerationStartRequest.fields.Kinds as layouts-EnumerationStartRequest-fields-kinds
+use Rattle.layouts.proofs.EnumerationStartRequest.fields.Reads as layouts-EnumerationStartRequest-fields-reads
 use Rattle.layouts.proofs.EnumerationStartRequest.read.Kinds as layouts-EnumerationStartRequest-read-kinds
 use Rattle.layouts.proofs.EnumerationStartRequest.read.Reads as layouts-EnumerationStartRequest-read-reads
 use Rattle.layouts.proofs.EnumerationStartRequest.enumeration_gateway_id.Kinds as layouts-EnumerationStartRequest-enumeration_gateway_id-kinds
@@ -177,8 +206,14 @@ use Rattle.answers.proofs.entries.add.Kinds as answers-entries-add-kinds
 use Rattle.answers.proofs.entries.add.Reads as answers-entries-add-reads
 use Rattle.answers.proofs.entries.raise.Kinds as answers-entries-raise-kinds
 use Rattle.answers.proofs.entries.raise.Reads as answers-entries-raise-reads
-use Rattle.answers.proofs.said.said_of.Kinds as answers-said-said_of-kinds
-use Rattle.answers.proofs.said.said_of.Reads as answers-said-said_of-reads
+use Rattle.answers.proofs.counters.Counter.place.Kinds as answers-counters-Counter-place-kinds
+use Rattle.answers.proofs.counters.Counter.place.Reads as answers-counters-Counter-place-reads
+use Rattle.answers.proofs.Refusal.number.Kinds as answers-Refusal-number-kinds
+use Rattle.answers.proofs.Refusal.number.Reads as answers-Refusal-number-reads
+use Rattle.answers.proofs.Refusal.needed.Kinds as answers-Refusal-needed-kinds
+use Rattle.answers.proofs.Refusal.needed.Reads as answers-Refusal-needed-reads
+use Rattle.answers.proofs.barred.Kinds as answers-barred-kinds
+use Rattle.answers.proofs.barred.Reads as answers-barred-reads
 use Rattle.receive_frames.proofs.receive_request.Kinds as receive_frames-receive_request-kinds
 use Rattle.receive_frames.proofs.receive_request.Reads as receive_frames-receive_request-reads
 use Rattle.receive_frames.proofs.receive_response.Kinds as receive_frames-receive_response-kinds
@@ -199,6 +234,12 @@ use Rattle.transport_receiver.proofs.step_in.Kinds as transport_receiver-step_in
 use Rattle.transport_receiver.proofs.step_in.Reads as transport_receiver-step_in-reads
 use Rattle.transport_receiver.proofs.reset_in.Kinds as transport_receiver-reset_in-kinds
 use Rattle.transport_receiver.proofs.reset_in.Reads as transport_receiver-reset_in-reads
+use Rattle.sound_record.proofs.KindTryFromU8.try_from.Kinds as sound_record-Kind-try_from-kinds
+use Rattle.sound_record.proofs.KindTryFromU8.try_from.Reads as sound_record-Kind-try_from-reads
+use Rattle.sound_record.proofs.U8FromKind.from.Kinds as sound_record-u8-from-kinds
+use Rattle.sound_record.proofs.U8FromKind.from.Reads as sound_record-u8-from-reads
+use Rattle.sound_record.proofs.Kind.allows.Kinds as sound_record-Kind-allows-kinds
+use Rattle.sound_record.proofs.Kind.allows.Reads as sound_record-Kind-allows-reads
 use Rattle.sound_record.proofs.sound_body.Kinds as sound_record-sound_body-kinds
 use Rattle.sound_record.proofs.sound_body.Reads as sound_record-sound_body-reads
 use Rattle.sound_record.proofs.sound.Kinds as sound_record-sound-kinds
@@ -251,18 +292,21 @@ use Rattle.link_receive.proofs.payload.Kinds as link_receive-payload-kinds
 use Rattle.link_receive.proofs.payload.Reads as link_receive-payload-reads
 use Rattle.transport_receiver.proofs.request_payload.Kinds as transport_receiver-request_payload-kinds
 use Rattle.transport_receiver.proofs.request_payload.Reads as transport_receiver-request_payload-reads
-use Rattle.console.proofs.text.put.Kinds as console-text-put-kinds
-use Rattle.console.proofs.text.put.Reads as console-text-put-reads
-use Rattle.console.proofs.text.put_all.Kinds as console-text-put_all-kinds
-use Rattle.console.proofs.text.put_all.Reads as console-text-put_all-reads
-use Rattle.console.proofs.text.put_hex.Kinds as console-text-put_hex-kinds
-use Rattle.console.proofs.text.put_hex.Reads as console-text-put_hex-reads
-use Rattle.console.proofs.turns_left.Kinds as console-turns_left-kinds
-use Rattle.console.proofs.turns_left.Reads as console-turns_left-reads
+use Rattle.console.proofs.FailureFromError.from.Kinds as console-Failure-from-kinds
+use Rattle.console.proofs.FailureFromError.from.Reads as console-Failure-from-reads
+use Rattle.console.proofs.text.Output.put.Kinds as console-text-Output-put-kinds
+use Rattle.console.proofs.text.Output.put.Reads as console-text-Output-put-reads
+use Rattle.console.proofs.text.Output.put_all.Kinds as console-text-Output-put_all-kinds
+use Rattle.console.proofs.text.Output.put_all.Reads as console-text-Output-put_all-reads
+use Rattle.console.proofs.text.Output.put_hex.Kinds as console-text-Output-put_hex-kinds
+use Rattle.console.proofs.text.Output.put_hex.Reads as console-text-Output-put_hex-reads
 
 -- a kind and its number
 abbrev dsn : ℕ → DSN
 dsn n = record { 0 = n }
+
+abbrev gateway_id : ℕ → GatewayID
+gateway_id n = record { 0 = n }
 
 abbrev node_address : ℕ → NodeAddress
 node_address n = record { 0 = n }
@@ -295,20 +339,38 @@ escaping-escape κs a x y u v p q = (handed_written-same x y (p.0 ∙ sym q.0), 
 pub escaping-unescaped_byte : Determined 0 escaping-unescaped_byte-kinds.ps escaping-unescaped_byte-kinds.r escaping-unescaped_byte-reads.Learnt
 escaping-unescaped_byte κs a x y u v p q = (handed_byte-same x y (p ∙ sym q), refl)
 
-pub address-GatewayID-new : Determined 0 address-GatewayID-new-kinds.ps address-GatewayID-new-kinds.r address-GatewayID-new-reads.Learnt
-address-GatewayID-new κs a x y u v p q = (handed_id-same x y (p ∙ sym q), refl)
+pub address-GatewayID-try_from : Determined 0 address-GatewayID-try_from-kinds.ps address-GatewayID-try_from-kinds.r address-GatewayID-try_from-reads.Learnt
+address-GatewayID-try_from κs a x y u v p q = (handed_id-same x y (p ∙ sym q), refl)
 
-pub address-Address-from_u16 : Determined 0 address-Address-from_u16-kinds.ps address-Address-from_u16-kinds.r address-Address-from_u16-reads.Learnt
-address-Address-from_u16 κs a x y u v p q = (p ∙ sym q, refl)
+pub address-Address-from : Determined 0 address-Address-from-kinds.ps address-Address-from-kinds.r address-Address-from-reads.Learnt
+address-Address-from κs a x y u v p q = (p ∙ sym q, refl)
 
-pub address-Address-to_u16 : Determined 0 address-Address-to_u16-kinds.ps address-Address-to_u16-kinds.r address-Address-to_u16-reads.Learnt
-address-Address-to_u16 κs a x y u v p q = (handed_number-same x y (p ∙ sym q), refl)
+pub address-u16-try_from : Determined 0 address-u16-try_from-kinds.ps address-u16-try_from-kinds.r address-u16-try_from-reads.Learnt
+address-u16-try_from κs a x y u v p q = (handed_number-same x y (p ∙ sym q), refl)
+
+pub address-Address-gateway : Determined 0 address-Address-gateway-kinds.ps address-Address-gateway-kinds.r address-Address-gateway-reads.Learnt
+address-Address-gateway κs a x y u v p q = (ap gateway_id (p ∙ sym q), refl)
+
+pub address-Address-is_from : Determined 0 address-Address-is_from-kinds.ps address-Address-is_from-kinds.r address-Address-is_from-reads.Learnt
+address-Address-is_from κs a x y u v p q = (p ∙ sym q, refl)
 
 pub address-Address-from_be_bytes : Determined 0 address-Address-from_be_bytes-kinds.ps address-Address-from_be_bytes-kinds.r address-Address-from_be_bytes-reads.Learnt
 address-Address-from_be_bytes κs a x y u v p q = (p ∙ sym q, refl)
 
 pub address-Address-to_be_bytes : Determined 0 address-Address-to_be_bytes-kinds.ps address-Address-to_be_bytes-kinds.r address-Address-to_be_bytes-reads.Learnt
 address-Address-to_be_bytes κs a x y u v p q = (handed_bytes-same x y (p ∙ sym q), refl)
+
+-- an error of `encode` is known by its row
+encode-error : (x y : EncodeError) → refusal_of x ≡ refusal_of y → x ≡ y
+encode-error x y e =
+    let z : ◌≡◌ {A = Result ℕ EncodeError} (Err x) (Err y) = handed-same (Err x) (Err y) (ap refused_as e) in
+    cc
+
+pub link-EncodeError-from_id : Determined 0 link-EncodeError-from_id-kinds.ps link-EncodeError-from_id-kinds.r link-EncodeError-from_id-reads.Learnt
+link-EncodeError-from_id κs a x y u v p q = (encode-error x y (p ∙ sym q), refl)
+
+pub link-EncodeError-from_escape : Determined 0 link-EncodeError-from_escape-kinds.ps link-EncodeError-from_escape-kinds.r link-EncodeError-from_escape-reads.Learnt
+link-EncodeError-from_escape κs a x y u v p q = (encode-error x y (p ∙ sym q), refl)
 
 pub link-encode : Determined 2 link-encode-kinds.ps link-encode-kinds.r link-encode-reads.Learnt
 link-encode κs a x y u v p q = (handed-same x y (p.0 ∙ sym q.0), cc)
@@ -386,8 +448,8 @@ utf8-is_text κs a x y u v p q = (both x y p q, refl)
 pub network-DSN-add : Determined 0 network-DSN-add-kinds.ps network-DSN-add-kinds.r network-DSN-add-reads.Learnt
 network-DSN-add κs a x y u v p q = (ap dsn (p ∙ sym q), refl)
 
-pub network-NodeID-try_from : Determined 0 network-NodeID-try_from-kinds.ps network-NodeID-try_from-kinds.r network-NodeID-try_from-reads.Learnt
-network-NodeID-try_from κs a x y u v p q = (p ∙ sym q, refl)
+pub network-NodeID-new : Determined 0 network-NodeID-new-kinds.ps network-NodeID-new-kinds.r network-NodeID-new-reads.Learnt
+network-NodeID-new κs a x y u v p q = (p ∙ sym q, refl)
 
 pub network-NodeID-get : Determined 0 network-NodeID-get-kinds.ps network-NodeID-get-kinds.r network-NodeID-get-reads.Learnt
 network-NodeID-get κs a x y u v p q = (p ∙ sym q, refl)
@@ -417,7 +479,7 @@ pub network-ReceivedPackets-new : Determined 1 network-ReceivedPackets-new-kinds
 network-ReceivedPackets-new κs a x y u v p q = (ap₂ walker (p.0 ∙ sym q.0) (p.1 ∙ sym q.1), refl)
 
 pub network-ReceivedPackets-next : Determined 2 network-ReceivedPackets-next-kinds.ps network-ReceivedPackets-next-kinds.r network-ReceivedPackets-next-reads.Learnt
-network-ReceivedPackets-next κs a x y u v p q = (p.tells ∙ sym q.tells, ap (λ (w : ReceivedPackets). (at_last a.0 w, tt)) (p.moves ∙ sym q.moves))
+network-ReceivedPackets-next κs a x y u v p q = (p.0.tells ∙ sym q.0.tells, ap (λ (w : ReceivedPackets). (at_last a.0 w, tt)) (p.0.moves ∙ sym q.0.moves))
 
 pub slot_counter-SlotNumber-try_from : Determined 0 slot_counter-SlotNumber-try_from-kinds.ps slot_counter-SlotNumber-try_from-kinds.r slot_counter-SlotNumber-try_from-reads.Learnt
 slot_counter-SlotNumber-try_from κs a x y u v p q = (p ∙ sym q, refl)
@@ -425,14 +487,20 @@ slot_counter-SlotNumber-try_from κs a x y u v p q = (p ∙ sym q, refl)
 pub slot_counter-SlotNumber-get : Determined 0 slot_counter-SlotNumber-get-kinds.ps slot_counter-SlotNumber-get-kinds.r slot_counter-SlotNumber-get-reads.Learnt
 slot_counter-SlotNumber-get κs a x y u v p q = (p ∙ sym q, refl)
 
+pub slot_counter-u16-from : Determined 0 slot_counter-u16-from-kinds.ps slot_counter-u16-from-kinds.r slot_counter-u16-from-reads.Learnt
+slot_counter-u16-from κs a x y u v p q = (p ∙ sym q, refl)
+
+pub slot_counter-SlotEpoch-at : Determined 0 slot_counter-SlotEpoch-at-kinds.ps slot_counter-SlotEpoch-at-kinds.r slot_counter-SlotEpoch-at-reads.Learnt
+slot_counter-SlotEpoch-at κs a x y u v p q = (p ∙ sym q, refl)
+
 pub slot_counter-SlotEpoch-index : Determined 0 slot_counter-SlotEpoch-index-kinds.ps slot_counter-SlotEpoch-index-kinds.r slot_counter-SlotEpoch-index-reads.Learnt
 slot_counter-SlotEpoch-index κs a x y u v p q = (p ∙ sym q, refl)
 
 pub slot_counter-SlotEpoch-add : Determined 0 slot_counter-SlotEpoch-add-kinds.ps slot_counter-SlotEpoch-add-kinds.r slot_counter-SlotEpoch-add-reads.Learnt
 slot_counter-SlotEpoch-add κs a x y u v p q = (p ∙ sym q, refl)
 
-pub slot_counter-SlotEpoch-add_assign : Determined 0 slot_counter-SlotEpoch-add_assign-kinds.ps slot_counter-SlotEpoch-add_assign-kinds.r slot_counter-SlotEpoch-add_assign-reads.Learnt
-slot_counter-SlotEpoch-add_assign κs a x y u v p q = (p ∙ sym q, refl)
+pub slot_counter-SlotEpoch-add_assign : Determined 1 slot_counter-SlotEpoch-add_assign-kinds.ps slot_counter-SlotEpoch-add_assign-kinds.r slot_counter-SlotEpoch-add_assign-reads.Learnt
+slot_counter-SlotEpoch-add_assign κs a x y u v p q = (refl, ap (λ (e : SlotEpoch). (at_last a.0 e, (a.1.0, tt))) (p ∙ sym q))
 
 pub slot_counter-SlotCounter-new : Determined 0 slot_counter-SlotCounter-new-kinds.ps slot_counter-SlotCounter-new-kinds.r slot_counter-SlotCounter-new-reads.Learnt
 slot_counter-SlotCounter-new κs a x y u v p q = (ap slot_counter (p ∙ sym q), refl)
@@ -458,20 +526,35 @@ transport-needed κs a x y u v p q = (p ∙ sym q, refl)
 pub transport-interpret_packet_number_lo : Determined 0 transport-interpret_packet_number_lo-kinds.ps transport-interpret_packet_number_lo-kinds.r transport-interpret_packet_number_lo-reads.Learnt
 transport-interpret_packet_number_lo κs a x y u v p q = (ap packet_number (p ∙ sym q), refl)
 
+pub layouts-CommandRequest-fields : Determined 1 layouts-CommandRequest-fields-kinds.ps layouts-CommandRequest-fields-kinds.r layouts-CommandRequest-fields-reads.Learnt
+layouts-CommandRequest-fields κs a x y u v p q = (p ∙ sym q, refl)
+
 pub layouts-CommandRequest-read : Determined 1 layouts-CommandRequest-read-kinds.ps layouts-CommandRequest-read-kinds.r layouts-CommandRequest-read-reads.Learnt
 layouts-CommandRequest-read κs a x y u v p q = (p ∙ sym q, refl)
+
+pub layouts-CommandResponse-fields : Determined 1 layouts-CommandResponse-fields-kinds.ps layouts-CommandResponse-fields-kinds.r layouts-CommandResponse-fields-reads.Learnt
+layouts-CommandResponse-fields κs a x y u v p q = (p ∙ sym q, refl)
 
 pub layouts-CommandResponse-read : Determined 1 layouts-CommandResponse-read-kinds.ps layouts-CommandResponse-read-kinds.r layouts-CommandResponse-read-reads.Learnt
 layouts-CommandResponse-read κs a x y u v p q = (p ∙ sym q, refl)
 
+pub layouts-ReceiveRequest-fields : Determined 1 layouts-ReceiveRequest-fields-kinds.ps layouts-ReceiveRequest-fields-kinds.r layouts-ReceiveRequest-fields-reads.Learnt
+layouts-ReceiveRequest-fields κs a x y u v p q = (p ∙ sym q, refl)
+
 pub layouts-ReceiveRequest-read : Determined 1 layouts-ReceiveRequest-read-kinds.ps layouts-ReceiveRequest-read-kinds.r layouts-ReceiveRequest-read-reads.Learnt
 layouts-ReceiveRequest-read κs a x y u v p q = (p ∙ sym q, refl)
+
+pub layouts-IdentifyResponse-fields : Determined 1 layouts-IdentifyResponse-fields-kinds.ps layouts-IdentifyResponse-fields-kinds.r layouts-IdentifyResponse-fields-reads.Learnt
+layouts-IdentifyResponse-fields κs a x y u v p q = (p ∙ sym q, refl)
 
 pub layouts-IdentifyResponse-read : Determined 1 layouts-IdentifyResponse-read-kinds.ps layouts-IdentifyResponse-read-kinds.r layouts-IdentifyResponse-read-reads.Learnt
 layouts-IdentifyResponse-read κs a x y u v p q = (p ∙ sym q, refl)
 
 pub layouts-IdentifyResponse-gateway_id : Determined 0 layouts-IdentifyResponse-gateway_id-kinds.ps layouts-IdentifyResponse-gateway_id-kinds.r layouts-IdentifyResponse-gateway_id-reads.Learnt
 layouts-IdentifyResponse-gateway_id κs a x y u v p q = (p ∙ sym q, refl)
+
+pub layouts-EnumerationStartRequest-fields : Determined 1 layouts-EnumerationStartRequest-fields-kinds.ps layouts-EnumerationStartRequest-fields-kinds.r layouts-EnumerationStartRequest-fields-reads.Learnt
+layouts-EnumerationStartRequest-fields κs a x y u v p q = (p ∙ sym q, refl)
 
 pub layouts-EnumerationStartRequest-read : Determined 1 layouts-EnumerationStartRequest-read-kinds.ps layouts-EnumerationStartRequest-read-kinds.r layouts-EnumerationStartRequest-read-reads.Learnt
 layouts-EnumerationStartRequest-read κs a x y u v p q = (p ∙ sym q, refl)
@@ -503,38 +586,56 @@ answers-entries-add κs a x y u v p q = (refl, ap (λ (z : List ℕ). (at_last a
 pub answers-entries-raise : Determined 1 answers-entries-raise-kinds.ps answers-entries-raise-kinds.r answers-entries-raise-reads.Learnt
 answers-entries-raise κs a x y u v p q = (refl, ap (λ (z : List ℕ). (at_last a.0 z, (a.1.0, tt))) (p ∙ sym q))
 
-pub answers-said-said_of : Determined 0 answers-said-said_of-kinds.ps answers-said-said_of-kinds.r answers-said-said_of-reads.Learnt
-answers-said-said_of κs a x y u v p q = (p ∙ sym q, refl)
+pub answers-counters-Counter-place : Determined 0 answers-counters-Counter-place-kinds.ps answers-counters-Counter-place-kinds.r answers-counters-Counter-place-reads.Learnt
+answers-counters-Counter-place κs a x y u v p q = (p ∙ sym q, refl)
+
+pub answers-Refusal-number : Determined 0 answers-Refusal-number-kinds.ps answers-Refusal-number-kinds.r answers-Refusal-number-reads.Learnt
+answers-Refusal-number κs a x y u v p q = (p ∙ sym q, refl)
+
+pub answers-Refusal-needed : Determined 0 answers-Refusal-needed-kinds.ps answers-Refusal-needed-kinds.r answers-Refusal-needed-reads.Learnt
+answers-Refusal-needed κs a x y u v p q = (p ∙ sym q, refl)
+
+pub answers-barred : Determined 1 answers-barred-kinds.ps answers-barred-kinds.r answers-barred-reads.Learnt
+answers-barred κs a x y u v p q = (p.0 ∙ sym q.0, refl)
 
 pub receive_frames-receive_request : Determined 4 receive_frames-receive_request-kinds.ps receive_frames-receive_request-kinds.r receive_frames-receive_request-reads.Learnt
-receive_frames-receive_request κs a x y u v p q = (ap (λ (s : Asked). s.answer) (p ∙ sym q), ap (λ (s : Asked). (at_last a.0 s.nkeys, (at_last a.1.0 s.numbers, (at_last a.1.1.0 s.counters, (a.1.1.1.0, (a.1.1.1.1.0, (a.1.1.1.1.1.0, tt))))))) (p ∙ sym q))
+receive_frames-receive_request κs a x y u v p q = (ap (λ (s : Asked). s.answer) (p ∙ sym q), ap (λ (s : Asked). (at_last a.0 s.nkeys, (at_last a.1.0 s.numbers, (at_last a.1.1.0 s.counters, (a.1.1.1.0, (a.1.1.1.1.0, tt)))))) (p ∙ sym q))
 
 pub receive_frames-receive_response : Determined 4 receive_frames-receive_response-kinds.ps receive_frames-receive_response-kinds.r receive_frames-receive_response-reads.Learnt
-receive_frames-receive_response κs a x y u v p q = (ap (λ (s : Received). s.answer) (p ∙ sym q), ap (λ (s : Received). (a.0, (at_last a.1.0 s.numbers, (at_last a.1.1.0 s.counters, (a.1.1.1.0, (a.1.1.1.1.0, (a.1.1.1.1.1.0, tt))))))) (p ∙ sym q))
+receive_frames-receive_response κs a x y u v p q = (ap (λ (s : Received). s.answer) (p ∙ sym q), ap (λ (s : Received). (a.0, (at_last a.1.0 s.numbers, (at_last a.1.1.0 s.counters, (a.1.1.1.0, (a.1.1.1.1.0, tt)))))) (p ∙ sym q))
 
 pub command_frames-command_request : Determined 8 command_frames-command_request-kinds.ps command_frames-command_request-kinds.r command_frames-command_request-reads.Learnt
-command_frames-command_request κs a x y u v p q = (ap (λ (s : Requested). s.answer) (p ∙ sym q), ap (λ (s : Requested). (at_last a.0 s.noted.skeys, (at_last a.1.0 s.noted.sequences, (at_last a.1.1.0 s.seated.ckeys, (at_last a.1.1.1.0 s.seated.ctypes, (at_last a.1.1.1.1.0 s.seated.clengths, (at_last a.1.1.1.1.1.0 s.seated.cpayloads, (at_last a.1.1.1.1.1.1.0 s.noted.counters, (a.1.1.1.1.1.1.1.0, (a.1.1.1.1.1.1.1.1.0, (a.1.1.1.1.1.1.1.1.1.0, tt))))))))))) (p ∙ sym q))
+command_frames-command_request κs a x y u v p q = (ap (λ (s : Requested). s.answer) (p ∙ sym q), ap (λ (s : Requested). (at_last a.0 s.noted.skeys, (at_last a.1.0 s.noted.sequences, (at_last a.1.1.0 s.seated.ckeys, (at_last a.1.1.1.0 s.seated.ctypes, (at_last a.1.1.1.1.0 s.seated.clengths, (at_last a.1.1.1.1.1.0 s.seated.cpayloads, (at_last a.1.1.1.1.1.1.0 s.noted.counters, (a.1.1.1.1.1.1.1.0, (a.1.1.1.1.1.1.1.1.0, tt)))))))))) (p ∙ sym q))
 
 pub command_frames-command_response : Determined 5 command_frames-command_response-kinds.ps command_frames-command_response-kinds.r command_frames-command_response-reads.Learnt
-command_frames-command_response κs a x y u v p q = (ap (λ (s : Answered). s.answer) (p ∙ sym q), ap (λ (s : Answered). (at_last a.0 s.ckeys, (a.1.0, (a.1.1.0, (at_last a.1.1.1.0 s.counters, (a.1.1.1.1.0, (a.1.1.1.1.1.0, (a.1.1.1.1.1.1.0, tt)))))))) (p ∙ sym q))
+command_frames-command_response κs a x y u v p q = (ap (λ (s : Answered). s.answer) (p ∙ sym q), ap (λ (s : Answered). (at_last a.0 s.ckeys, (a.1.0, (a.1.1.0, (at_last a.1.1.1.0 s.counters, (a.1.1.1.1.0, (a.1.1.1.1.1.0, tt))))))) (p ∙ sym q))
 
 pub plain_frames-untabled : Determined 2 plain_frames-untabled-kinds.ps plain_frames-untabled-kinds.r plain_frames-untabled-reads.Learnt
-plain_frames-untabled κs a x y u v p q = (ap (λ (s : Counted). s.answer) (p ∙ sym q), ap (λ (s : Counted). (at_last a.0 s.counters, (a.1.0, (a.1.1.0, (a.1.1.1.0, (a.1.1.1.1.0, tt)))))) (p ∙ sym q))
+plain_frames-untabled κs a x y u v p q = (ap (λ (s : Counted). s.answer) (p ∙ sym q), ap (λ (s : Counted). (at_last a.0 s.counters, (a.1.0, (a.1.1.0, (a.1.1.1.0, tt))))) (p ∙ sym q))
 
 pub transport_receiver-Receiver-new : Determined 0 transport_receiver-Receiver-new-kinds.ps transport_receiver-Receiver-new-kinds.r transport_receiver-Receiver-new-reads.Learnt
 transport_receiver-Receiver-new κs a x y u v p q = (p ∙ sym q, refl)
 
-pub transport_receiver-Receiver-step : Determined 1 transport_receiver-Receiver-step-kinds.ps transport_receiver-Receiver-step-kinds.r transport_receiver-Receiver-step-reads.Learnt
-transport_receiver-Receiver-step κs a x y u v p q = (p.0 ∙ sym q.0, refl)
+pub transport_receiver-Receiver-step : Determined 2 transport_receiver-Receiver-step-kinds.ps transport_receiver-Receiver-step-kinds.r transport_receiver-Receiver-step-reads.Learnt
+transport_receiver-Receiver-step κs a x y u v p q = (ap (λ (s : Stepped). s.answer) (p.0 ∙ sym q.0), ap (λ (s : Stepped). (at_last a.0 s.receiver, (a.1.0, (a.1.1.0, (a.1.1.1.0, tt))))) (p.0 ∙ sym q.0))
 
-pub transport_receiver-Receiver-reset_counters : Determined 0 transport_receiver-Receiver-reset_counters-kinds.ps transport_receiver-Receiver-reset_counters-kinds.r transport_receiver-Receiver-reset_counters-reads.Learnt
-transport_receiver-Receiver-reset_counters κs a x y u v p q = (p.0 ∙ sym q.0, refl)
+pub transport_receiver-Receiver-reset_counters : Determined 1 transport_receiver-Receiver-reset_counters-kinds.ps transport_receiver-Receiver-reset_counters-kinds.r transport_receiver-Receiver-reset_counters-reads.Learnt
+transport_receiver-Receiver-reset_counters κs a x y u v p q = (ap (λ (s : WasReset). s.answer) (p.0 ∙ sym q.0), ap (λ (s : WasReset). (at_last a.0 s.receiver, tt)) (p.0 ∙ sym q.0))
 
 pub transport_receiver-step_in : Determined 10 transport_receiver-step_in-kinds.ps transport_receiver-step_in-kinds.r transport_receiver-step_in-reads.Learnt
 transport_receiver-step_in κs a x y u v p q = (ap (λ (s : Stepped). s.answer) (p.0 ∙ sym q.0), ap (λ (s : Stepped). (at_last a.0 s.receiver.numbers.keys, (at_last a.1.0 s.receiver.numbers.values, (at_last a.1.1.0 s.receiver.sequences.keys, (at_last a.1.1.1.0 s.receiver.sequences.values, (at_last a.1.1.1.1.0 s.receiver.commands.keys, (at_last a.1.1.1.1.1.0 s.receiver.commands.types, (at_last a.1.1.1.1.1.1.0 s.receiver.commands.lengths, (at_last a.1.1.1.1.1.1.1.0 s.receiver.commands.payloads, (at_last a.1.1.1.1.1.1.1.1.0 s.receiver.counters, (a.1.1.1.1.1.1.1.1.1.0, (a.1.1.1.1.1.1.1.1.1.1.0, (a.1.1.1.1.1.1.1.1.1.1.1.0, tt))))))))))))) (p.0 ∙ sym q.0))
 
 pub transport_receiver-reset_in : Determined 3 transport_receiver-reset_in-kinds.ps transport_receiver-reset_in-kinds.r transport_receiver-reset_in-reads.Learnt
 transport_receiver-reset_in κs a x y u v p q = (p.0 ∙ sym q.0, ap (λ (n : List ℕ). (a.0, (a.1.0, (at_last a.1.1.0 n, tt)))) (p.1 ∙ sym q.1))
+
+pub sound_record-Kind-try_from : Determined 0 sound_record-Kind-try_from-kinds.ps sound_record-Kind-try_from-kinds.r sound_record-Kind-try_from-reads.Learnt
+sound_record-Kind-try_from κs a x y u v p q = (numbered-same a.0 x y p q, refl)
+
+pub sound_record-u8-from : Determined 0 sound_record-u8-from-kinds.ps sound_record-u8-from-kinds.r sound_record-u8-from-reads.Learnt
+sound_record-u8-from κs a x y u v p q = (p ∙ sym q, refl)
+
+pub sound_record-Kind-allows : Determined 1 sound_record-Kind-allows-kinds.ps sound_record-Kind-allows-kinds.r sound_record-Kind-allows-reads.Learnt
+sound_record-Kind-allows κs a x y u v p q = (p ∙ sym q, refl)
 
 pub sound_record-sound_body : Determined 1 sound_record-sound_body-kinds.ps sound_record-sound_body-kinds.r sound_record-sound_body-reads.Learnt
 sound_record-sound_body κs a x y u v p q = (p ∙ sym q, refl)
@@ -608,17 +709,17 @@ byte_runs-noises κs a x y u v p q = (p ∙ sym q, refl)
 pub byte_runs-copy_run : Determined 2 byte_runs-copy_run-kinds.ps byte_runs-copy_run-kinds.r byte_runs-copy_run-reads.Learnt
 byte_runs-copy_run κs a x y u v p q = (p.0 ∙ sym q.0, ap (λ (z : List ℕ). (a.0, (at_last a.1.0 z, (a.1.1.0, (a.1.1.1.0, (a.1.1.1.1.0, tt)))))) (p.1 ∙ ap (λ (n : ℕ). paste a.1.0.now a.1.1.0 (drop a.1.1.1.1.0 a.1.1.1.0.now) n) (p.0 ∙ sym q.0) ∙ sym q.1))
 
-pub console-text-put : Determined 1 console-text-put-kinds.ps console-text-put-kinds.r console-text-put-reads.Learnt
-console-text-put κs a x y u v p q = (ap (λ (t : Text). t.at) (p ∙ sym q), ap (λ (t : Text). (at_last a.0 t.bytes, (a.1.0, (a.1.1.0, tt)))) (p ∙ sym q))
+pub console-Failure-from : Determined 0 console-Failure-from-kinds.ps console-Failure-from-kinds.r console-Failure-from-reads.Learnt
+console-Failure-from κs a x y u v p q = (p ∙ sym q, refl)
 
-pub console-text-put_all : Determined 2 console-text-put_all-kinds.ps console-text-put_all-kinds.r console-text-put_all-reads.Learnt
-console-text-put_all κs a x y u v p q = (ap (λ (t : Text). t.at) (p ∙ sym q), ap (λ (t : Text). (at_last a.0 t.bytes, (a.1.0, (a.1.1.0, tt)))) (p ∙ sym q))
+pub console-text-Output-put : Determined 1 console-text-Output-put-kinds.ps console-text-Output-put-kinds.r console-text-Output-put-reads.Learnt
+console-text-Output-put κs a x y u v p q = (refl, ap (λ (o : Output). (at_last a.0 o, (a.1.0, tt))) (p ∙ sym q))
 
-pub console-text-put_hex : Determined 2 console-text-put_hex-kinds.ps console-text-put_hex-kinds.r console-text-put_hex-reads.Learnt
-console-text-put_hex κs a x y u v p q = (ap (λ (t : Text). t.at) (p ∙ sym q), ap (λ (t : Text). (at_last a.0 t.bytes, (a.1.0, (a.1.1.0, tt)))) (p ∙ sym q))
+pub console-text-Output-put_all : Determined 2 console-text-Output-put_all-kinds.ps console-text-Output-put_all-kinds.r console-text-Output-put_all-reads.Learnt
+console-text-Output-put_all κs a x y u v p q = (refl, ap (λ (o : Output). (at_last a.0 o, (a.1.0, tt))) (p ∙ sym q))
 
-pub console-turns_left : Determined 0 console-turns_left-kinds.ps console-turns_left-kinds.r console-turns_left-reads.Learnt
-console-turns_left κs a x y u v p q = (p.0 ∙ sym q.0, refl)
+pub console-text-Output-put_hex : Determined 2 console-text-Output-put_hex-kinds.ps console-text-Output-put_hex-kinds.r console-text-Output-put_hex-reads.Learnt
+console-text-Output-put_hex κs a x y u v p q = (refl, ap (λ (o : Output). (at_last a.0 o, (a.1.0, tt))) (p ∙ sym q))
 
 -- a part of what is lent is handed back: its bytes are determined
 pub link_receive-payload : (κs : Lfts 1) (a : Dens κs link_receive-payload-kinds.ps) (x y : (res_t link_receive-payload-kinds.r κs).Denot) (u v : Lasts (ended_of 1 link_receive-payload-kinds.ps link_receive-payload-kinds.r) κs a)

@@ -1,7 +1,7 @@
 -- Of four functions: what a caller learns, written down by hand and proved to be what the contract's clauses say, and that it determines the
 -- outcome. Determined.antt has the same of what the checker makes of the contract. Assumes nothing.
 use mathlib.Core.Path.{◌≡◌, refl, sym, ap, ap₂, ◌∙◌}
-use Prim.Native.Nat.{ℕ}
+use Prim.Native.Nat.{ℕ, ◌-◌}
 use mathlib.Core.List.{List}
 use seplogic.Ra.Ura.{Ura}
 use base.Logic.{SProp}
@@ -10,7 +10,10 @@ use prog.Routine.{Routine}
 use types.Logic.{Logic}
 use contract.Monad.{Fun}
 use denote.Ref.{Bor, at_last}
-use Rattle.promises.specs.Determined.{Says, DeterminedBy, SaidBy}
+use lib.ListN.{length}
+use Rattle.std.specs.Bool.{⊤}
+use Rattle.std.specs.Iterator.{MakesProgress, at_most}
+use Rattle.promises.specs.Determined.{Says, DeterminedBy, SaidBy, SaidByBoth}
 use Rattle.crc.specs.Crc.{crc_of}
 use Rattle.link_receive.specs.declared.Stepped.{Stepped}
 use Rattle.link_feed.specs.declared.Fed.{Fed}
@@ -21,7 +24,7 @@ use Rattle.link_feed.specs.Tallies.{Pushed, FedWith}
 use Rattle.lent_tallies.specs.contracts.push_u8 as push-u8
 use Rattle.lent_tallies.specs.contracts.feed as feed
 use Rattle.network.specs.contracts.received_packets.ReceivedPackets.new as new
-use Rattle.network.specs.contracts.received_packets.ReceivedPackets.next as next
+use Rattle.network.specs.contracts.received_packets.ReceivedPacketsIterator.next as next
 
 abbrev push-u8-says : Says push-u8.ended
 push-u8-says κs a x e = Pushed crc_of a.0.now a.1.0 a.1.1.0 x e.0.now
@@ -60,7 +63,11 @@ network-ReceivedPackets-new κs a x y u v p q = (ap₂ walker (p.0 ∙ sym q.0) 
 abbrev next-says : Says next.ended
 next-says κs a x e = Next a.0.now x e.0.now
 
-pub next-said : {M : Type 1} {𝓤 : Ura M} (𝓛 : Logic 𝓤) (mem : Memory → SProp 𝓤) (run : Routine → Fun 𝓤) → SaidBy 𝓤 next.ended (next.clauses 𝓛 mem run) next-says
+-- a walker is an `Iterator`, whose contract has a second clause: it ends
+abbrev next-ends : Says next.ended
+next-ends κs a x e = MakesProgress (λ (w : ReceivedPackets). ⊤) (λ (w : ReceivedPackets). at_most (length w.area.now - w.at)) a.0.now x e.0.now
+
+pub next-said : {M : Type 1} {𝓤 : Ura M} (𝓛 : Logic 𝓤) (mem : Memory → SProp 𝓤) (run : Routine → Fun 𝓤) → SaidByBoth 𝓤 next.ended (next.clauses 𝓛 mem run) next-says next-ends
 next-said 𝓛 mem run κs a g x e = refl
 
 pub network-ReceivedPackets-next : DeterminedBy next.ended next-says

@@ -1,6 +1,7 @@
 -- When a contract determines its outcome. Assumes nothing.
 use Rattle.std.specs.Prelude.{◌≡◌, List, ℕ}
 use seplogic.Ra.Ura.{Ura}
+use base.Logic.{sep}
 use contract.Lifetimes.{Lfts}
 use contract.Monad.{fact}
 use denote.Triple.Clauses.{Ended, Clauses, Lasts, AtExit, at_exit}
@@ -33,3 +34,9 @@ abbrev pub SaidBy : {M : Type 1} (𝓤 : Ura M) (T : Ended) → Clauses 𝓤 T �
 SaidBy 𝓤 T c L =
     (κs : Lfts T.signature.lifetimes) (a : Args T.signature κs) (g : (c κs a).ghost) (x : Res T.signature κs) (e : AtExit T κs)
     → (c κs a).ensures g x e ≡ fact 𝓤 (L κs a x e)
+
+-- .. or, of a contract of two clauses, what the two say
+abbrev pub SaidByBoth : {M : Type 1} (𝓤 : Ura M) (T : Ended) → Clauses 𝓤 T → Says T → Says T → Type 2
+SaidByBoth 𝓤 T c L K =
+    (κs : Lfts T.signature.lifetimes) (a : Args T.signature κs) (g : (c κs a).ghost) (x : Res T.signature κs) (e : AtExit T κs)
+    → (c κs a).ensures g x e ≡ sep 𝓤 (fact 𝓤 (L κs a x e)) (fact 𝓤 (K κs a x e))

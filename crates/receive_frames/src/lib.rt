@@ -2,67 +2,61 @@
 #![tactic(auto)]
 
 ghost use Rattle.std.specs.Prelude.{◌≡◌, ◌≤◌, ◌<◌, length, get_or};
+ghost use Rattle.address.specs.Address.{is_from, gateway_of};
 ghost use Rattle.transport.specs.Response.{receive_read_of};
 ghost use Rattle.answers.specs.Counters.{count_packets};
 ghost use Rattle.answers.specs.Stored.{repeats};
 ghost use Rattle.receive_frames.specs.Receive.{Asked, captured_in, receive_request_in, received, good_in, read_in, answered_in, receive_response_in};
 
-use address::{GatewayID, ID_LIMIT};
-use answers::Answer;
-use answers::counters::*;
+use address::Address;
+use answers::counters::Counter;
 use answers::entries::{add, gateway_key, raise};
-use link::PAYLOAD_LIMIT;
-use transport::{PacketNumber, ReceiveRead, ReceiveResponse};
+use answers::{Accepted, Answer, Refusal, barred};
+use transport::{PacketNumber, ReceiveResponse, ReceiveResponseError};
 use words::be16;
 
 // A receive request that 13 and 32 do not refuse. Refused by 20, 21, 25, in this order.
+#[tactic(auto, unfolding(crate::specs::Receive::captured_in))]
 fn capture(
     nkeys: &mut [u32; 32],
     numbers: &mut [u16; 32],
     counters: &mut [u64; 33],
-    from: bool,
-    gateway: GatewayID,
+    address: Address,
     payload: &[u8],
 ) -> Answer
-    ensures { ◌≡◌ {A = Asked} (record { answer = result; nkeys = nkeys.new; numbers = numbers.new; counters = counters.new }) (captured_in nkeys.old numbers.old counters.old from gateway.0 payload.now) }
+    ensures { ◌≡◌ {A = Asked} (record { answer = result; nkeys = nkeys.new; numbers = numbers.new; counters = counters.new }) (captured_in nkeys.old numbers.old counters.old (is_from address) (gateway_of address) payload.now) }
 {
-    if from {
-        raise(counters, INVALID_RECEIVE_REQUEST);
-        return Answer::WrongDirection;
+    if address.is_from() {
+        raise(counters, Counter::InvalidReceiveRequest);
+        return Err(Refusal::WrongDirection);
     }
     if payload.len() != 5 {
-        raise(counters, INVALID_RECEIVE_REQUEST);
-        return Answer::WrongLength;
+        raise(counters, Counter::InvalidReceiveRequest);
+        return Err(Refusal::WrongLength);
     }
-    let key = gateway_key(gateway);
-    let i = tables::seat(nkeys, key);
-    if i < 32 {
-        raise(counters, RECEIVE_REQUESTS);
-        nkeys[i] = key;
-        numbers[i] = be16(payload[2], payload[3]);
-        return Answer::SlotCounterCaptured;
-    }
-    Answer::NumbersFull
+    let key = gateway_key(address.gateway());
+    let Some(i) = tables::seat(nkeys, key) else {
+        return Err(Refusal::NumbersFull);
+    };
+    raise(counters, Counter::ReceiveRequests);
+    nkeys[i] = key;
+    numbers[i] = be16(payload[2], payload[3]);
+    Ok(Accepted::SlotCounterCaptured)
 }
 
 // A receive request: its number is stored for the gateway. Refused by 13, 32, 20, 21, 25, in this order.
+#[tactic(auto, unfolding(crate::specs::Receive::receive_request_in))]
 pub fn receive_request(
     nkeys: &mut [u32; 32],
     numbers: &mut [u16; 32],
     counters: &mut [u64; 33],
-    from: bool,
-    gateway: GatewayID,
+    address: Address,
     payload: &[u8],
 ) -> Answer
-    ensures { ◌≡◌ {A = Asked} (record { answer = result; nkeys = nkeys.new; numbers = numbers.new; counters = counters.new }) (receive_request_in nkeys.old numbers.old counters.old from gateway.0 payload.now) }
+    ensures { ◌≡◌ {A = Asked} (record { answer = result; nkeys = nkeys.new; numbers = numbers.new; counters = counters.new }) (receive_request_in nkeys.old numbers.old counters.old (is_from address) (gateway_of address) payload.now) }
 {
-    if ID_LIMIT < gateway.0 {
-        return Answer::InvalidGatewayID;
-    }
-    if PAYLOAD_LIMIT < payload.len() {
-        return Answer::PayloadTooLong;
-    }
-    capture(nkeys, numbers, counters, from, gateway, payload)
+    barred(address, payload)?;
+    capture(nkeys, numbers, counters, address, payload)
 }
 
 // Whether a response's number repeats the one stored before it.
@@ -77,11 +71,16 @@ fn count_packets(counters: &mut [u64; 33], area: &[u8])
     ensures { counters.new ≡ count_packets area.now counters.old }
 {
     let tally = network::counts(area);
-    add(counters, RECEIVE_PACKETS, tally.packets);
-    add(counters, RECEIVE_PACKET_TOO_SHORT, tally.short);
+    add(counters, Counter::ReceivePackets, tally.packets);
+    add(
+        counters,
+        Counter::ReceivePacketTooShort,
+        u64::from(tally.short),
+    );
 }
 
 // A good receive response of the gateway whose number stands at place i.
+#[tactic(auto, unfolding(crate::specs::Receive::good_in))]
 fn good_response(
     numbers: &mut [u16; 32],
     counters: &mut [u64; 33],
@@ -100,14 +99,14 @@ fn good_response(
     let repeat = repeats(number, before, packets);
     let stored = number.0;
     numbers[i] = stored;
-    raise(counters, RECEIVE_RESPONSES);
+    raise(counters, Counter::ReceiveResponses);
     count_packets(counters, packets);
-    Answer::SlotCounterObserved {
+    Ok(Accepted::SlotCounterObserved {
         number,
         slot,
         repeat,
         area,
-    }
+    })
 }
 
 // A receive response of the gateway whose number stands at place i.
@@ -123,60 +122,52 @@ fn known_response(
     let before = PacketNumber(numbers[i]);
     let read = ReceiveResponse::read(payload, before);
     match read {
-        ReceiveRead::TooShort(needed) => {
-            raise(counters, INVALID_RECEIVE_RESPONSES);
-            Answer::TooShort { needed }
+        Err(ReceiveResponseError::TooShort(needed)) => {
+            raise(counters, Counter::InvalidReceiveResponses);
+            Err(Refusal::TooShort { needed })
         }
-        ReceiveRead::UnknownStatusType(_) => {
-            raise(counters, INVALID_RECEIVE_RESPONSES);
-            Answer::UnknownStatusType
+        Err(ReceiveResponseError::UnknownStatusType(_)) => {
+            raise(counters, Counter::InvalidReceiveResponses);
+            Err(Refusal::UnknownStatusType)
         }
-        ReceiveRead::Response(response, area) => {
-            good_response(numbers, counters, i, response, area, payload)
-        }
+        Ok((response, area)) => { good_response(numbers, counters, i, response, area, payload) }
     }
 }
 
 // A receive response that 13 and 32 do not refuse. Refused by 20, 24, then 23 if under 2 bytes, 22, 23.
+#[tactic(auto, unfolding(crate::specs::Receive::answered_in))]
 fn answer(
     nkeys: &[u32; 32],
     numbers: &mut [u16; 32],
     counters: &mut [u64; 33],
-    from: bool,
-    gateway: GatewayID,
+    address: Address,
     payload: &[u8],
 ) -> Answer
-    ensures { received result numbers.new counters.new ≡ answered_in nkeys.now numbers.old counters.old from gateway.0 payload.now }
+    ensures { received result numbers.new counters.new ≡ answered_in nkeys.now numbers.old counters.old (is_from address) (gateway_of address) payload.now }
 {
-    if !from {
-        raise(counters, INVALID_RECEIVE_RESPONSES);
-        return Answer::WrongDirection;
+    if !address.is_from() {
+        raise(counters, Counter::InvalidReceiveResponses);
+        return Err(Refusal::WrongDirection);
     }
-    let key = gateway_key(gateway);
-    let i = tables::find(nkeys, key);
-    if i < 32 {
-        return known_response(numbers, counters, i, payload);
-    }
-    raise(counters, RECEIVE_RESPONSE_FROM_UNKNOWN_GATEWAY);
-    Answer::UnknownGateway
+    let key = gateway_key(address.gateway());
+    let Some(i) = tables::find(nkeys, key) else {
+        raise(counters, Counter::ReceiveResponseFromUnknownGateway);
+        return Err(Refusal::UnknownGateway);
+    };
+    known_response(numbers, counters, i, payload)
 }
 
 // A receive response: its number replaces the one stored for the gateway. Refused by 13, 32, 20, 24, then 23 if under 2 bytes, 22, 23.
+#[tactic(auto, unfolding(crate::specs::Receive::receive_response_in))]
 pub fn receive_response(
     nkeys: &[u32; 32],
     numbers: &mut [u16; 32],
     counters: &mut [u64; 33],
-    from: bool,
-    gateway: GatewayID,
+    address: Address,
     payload: &[u8],
 ) -> Answer
-    ensures { received result numbers.new counters.new ≡ receive_response_in nkeys.now numbers.old counters.old from gateway.0 payload.now }
+    ensures { received result numbers.new counters.new ≡ receive_response_in nkeys.now numbers.old counters.old (is_from address) (gateway_of address) payload.now }
 {
-    if ID_LIMIT < gateway.0 {
-        return Answer::InvalidGatewayID;
-    }
-    if PAYLOAD_LIMIT < payload.len() {
-        return Answer::PayloadTooLong;
-    }
-    answer(nkeys, numbers, counters, from, gateway, payload)
+    barred(address, payload)?;
+    answer(nkeys, numbers, counters, address, payload)
 }

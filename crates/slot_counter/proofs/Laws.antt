@@ -1,11 +1,11 @@
 -- Masks and sums of slot counters, and what `slots_since` means: so many slots after the past, around 48000, is the present. Assumes nothing.
-use Rattle.std.proofs.Common.{◌≡◌, ℕ, zero, suc, ◌+◌, ◌-◌, ◌*◌, ◌/◌, ◌%◌, ◌^◌, ◌<◌, ◌≤◌, Bool, true, false, cond, ltb, refl, ap, ◌∙◌, mod-eq_of_lt, arith, ltb-false, ltb-true, le-ltb, lt-ltb, ne_eqb, le-leb}
+use Rattle.std.proofs.Common.{◌≡◌, ℕ, zero, suc, ◌+◌, ◌-◌, ◌*◌, ◌/◌, ◌%◌, ◌^◌, ◌<◌, ◌≤◌, Bool, true, false, cond, ltb, refl, ap, ◌∙◌, mod-eq_of_lt, arith, ltb-false, ltb-true, le-leb, leb, leb-true, leb-false, Ok, Err}
 use lib.Bits.{bit_and, and_mask, and_high, or_shifted}
-use borrow.Author.Tests.{lt-leb}
 use Rattle.slot_counter.specs.declared.SlotEpoch.{SlotEpoch}
 use Rattle.slot_counter.specs.declared.SlotEpoch.TheVariants.{Epoch0, Epoch4, Epoch8, EpochC}
-use Rattle.slot_counter.specs.declared.Since.TheVariants.{Slots, Bad}
-use Rattle.slot_counter.specs.Slots.{index_of, epoch_at, epoch_of, number_in, new_of, abs_of, abs_in, apart, slots_since_of}
+use Rattle.slot_counter.specs.declared.SlotNumber.{SlotNumber}
+use Rattle.slot_counter.specs.declared.InvalidSlotNumber.{InvalidSlotNumber}
+use Rattle.slot_counter.specs.Slots.{slot_number_of, index_of, epoch_at, epoch_of, number_in, new_of, abs_of, abs_in, apart, slots_since_of}
 
 -- the fourteen low bits, and the two high ones
 pub low_bits : (c : ℕ) → bit_and c 0x3fff ≡ number_in c
@@ -36,30 +36,8 @@ index_of-epoch_at (suc (suc zero)) h = refl
 index_of-epoch_at (suc (suc (suc zero))) h = refl
 index_of-epoch_at (suc (suc (suc (suc n)))) h = absurd (omega arith)
 
--- what `epoch` sees of the masked bits
-module _ (c : ℕ) (h : c < 2 ^ 16) where
-  pub epoch-found : (k : ℕ) → bit_and c 0xc000 ≡ k * 0x4000 → epoch_at k ≡ epoch_of c
-  epoch-found k e = let b = high_bits c h in ap epoch_at (omega arith)
-
-  pub epoch-last : (bit_and c 0xc000 ≡ 0 → ⊥) → (bit_and c 0xc000 ≡ 0x4000 → ⊥) → (bit_and c 0xc000 ≡ 0x8000 → ⊥) → epoch_at 3 ≡ epoch_of c
-  epoch-last n₀ n₁ n₂ = let b = high_bits c h in ap epoch_at (omega arith)
-
-  -- a counter's slots from the start of Epoch0, as `slots_since` computes them
-  pub abs-found : (e : SlotEpoch) (a : ℕ) → e ≡ epoch_of c → a ≡ abs_of (index_of e) (bit_and c 0x3fff) → a ≡ abs_in c
-  abs-found e a p q =
-      q ∙ rw (low_bits c) (ap (λ (k : ℕ). abs_of k (number_in c)) (ap index_of p ∙ index_of-epoch_at (c / 0x4000) (omega arith)))
-
 pub abs-lt : (e : SlotEpoch) (n : ℕ) → n ≤ 11999 → abs_of (index_of e) n < 48000
 abs-lt e n h = omega (arith, index_of-lt e)
-
--- any index but the first three is the last's
-pub epoch_at-last : (n : ℕ) → (n ≡ 0 → ⊥) → (n ≡ 1 → ⊥) → (n ≡ 2 → ⊥) → EpochC ≡ epoch_at n
-unfolding epoch_at
-epoch_at-last n n₀ n₁ n₂ = rw (ne_eqb n 0 n₀, ne_eqb n 1 n₁, ne_eqb n 2 n₂)
-
--- a byte's wrap at 256 is lost in the wrap at 4
-pub around-four : (a b : ℕ) → (a + b) % 2 ^ 8 % 4 ≡ (a + b) % 4
-around-four a b = omega arith
 
 -- a slot number's bits stand beside the epoch's: their sum
 pub new_of-sum : (e : SlotEpoch) (n : ℕ) → n ≤ 11999 → new_of e n ≡ index_of e * 0x4000 + n
@@ -97,34 +75,35 @@ module _ (now past : ℕ) (h : now < 48000) (g : past < 48000) where
       go true f = let k = ltb-true past now f in omega arith
       go false f = let k = ltb-false past now f in omega arith
 
--- the four ends of `slots_since`, which looks at masked bits
-module _ (now past : ℕ) where
-  pub since-bad-now : 11999 < bit_and now 0x3fff → Bad (record { 0 = bit_and now 0x3fff }) ≡ slots_since_of now past
-  unfolding slots_since_of
-  since-bad-now h = let e = low_bits now in rw (low_bits now, lt-leb (number_in now) 11999 (omega arith))
+abbrev number : ℕ → SlotNumber
+number n = record { 0 = n }
 
-  module _ (h : bit_and now 0x3fff ≤ 11999) where
-    own : number_in now ≤ 11999
-    own = let e = low_bits now in omega arith
+abbrev invalid : ℕ → InvalidSlotNumber
+invalid n = record { 0 = n }
 
-    pub since-bad-past : 11999 < bit_and past 0x3fff → Bad (record { 0 = bit_and past 0x3fff }) ≡ slots_since_of now past
-    unfolding slots_since_of
-    since-bad-past g = let e = low_bits past in rw (low_bits past, le-leb (number_in now) 11999 own, lt-leb (number_in past) 11999 (omega arith))
+-- what a slot number is that `slot_number` gives, or tells to be none
+module _ (n : ℕ) where
+  pub slot_number_of-ok : (v : SlotNumber) → Ok v ≡ slot_number_of n → (n ≤ 11999) × (v.0 ≡ n)
+  unfolding slot_number_of
+  slot_number_of-ok v e = go (leb n 11999) refl e
+    where
+      go : (t : Bool) → leb n 11999 ≡ t → Ok v ≡ cond t (Ok (number n)) (Err (invalid n)) → (n ≤ 11999) × (v.0 ≡ n)
+      go true f e = (leb-true n 11999 f, cc)
+      go false f e = let z : ◌≡◌ {A = ℕ} 0 1 = cc in absurd (omega arith)
 
-    module _ (g : bit_and past 0x3fff ≤ 11999) (a b : ℕ) (p : a ≡ abs_in now) (q : b ≡ abs_in past) where
-      old : number_in past ≤ 11999
-      old = let e = low_bits past in omega arith
+  pub slot_number_of-err : (v : InvalidSlotNumber) → Err v ≡ slot_number_of n → (11999 < n) × (v.0 ≡ n)
+  unfolding slot_number_of
+  slot_number_of-err v e = go (leb n 11999) refl e
+    where
+      go : (t : Bool) → leb n 11999 ≡ t → Err v ≡ cond t (Ok (number n)) (Err (invalid n)) → (11999 < n) × (v.0 ≡ n)
+      go true f e = let z : ◌≡◌ {A = ℕ} 0 1 = cc in absurd (omega arith)
+      go false f e = (leb-false n 11999 f, cc)
 
-      pub since-ahead : b < a → Slots (a - b) ≡ slots_since_of now past
-      unfolding slots_since_of
-      since-ahead l = rw (le-leb (number_in now) 11999 own, le-leb (number_in past) 11999 old, ← p, ← q, lt-ltb b a l)
-
-      pub since-around : a ≤ b → Slots (48000 - b + a) ≡ slots_since_of now past
-      unfolding slots_since_of
-      since-around l = rw (le-leb (number_in now) 11999 own, le-leb (number_in past) 11999 old, ← p, ← q, le-ltb b a l)
+pub index_of-epoch_of : (c : ℕ) → c < 2 ^ 16 → index_of (epoch_of c) ≡ c / 0x4000
+index_of-epoch_of c h = index_of-epoch_at (c / 0x4000) (omega arith)
 
 -- for two good counters `slots_since` is their places' distance, to which `apart_some`, `past-apart` and `apart-once` apply: the places are below 48000
-pub slots_since_of-good : (now past : ℕ) → number_in now ≤ 11999 → number_in past ≤ 11999 → slots_since_of now past ≡ Slots (apart (abs_in now) (abs_in past))
+pub slots_since_of-good : (now past : ℕ) → number_in now ≤ 11999 → number_in past ≤ 11999 → slots_since_of now past ≡ Ok (apart (abs_in now) (abs_in past))
 unfolding slots_since_of
 slots_since_of-good now past h g = rw (le-leb (number_in now) 11999 h, le-leb (number_in past) 11999 g)
 

@@ -1,11 +1,9 @@
 -- Slot counters in plain arithmetic, after slot_counter.rs. Assumes nothing.
-use Rattle.std.specs.Prelude.{ℕ, ◌+◌, ◌-◌, ◌*◌, ◌/◌, ◌%◌, cond, ◌==◌, bit_or, nat_le, nat_lt}
+use Rattle.std.specs.Prelude.{ℕ, ◌+◌, ◌-◌, ◌*◌, ◌/◌, ◌%◌, cond, ◌==◌, bit_or, nat_le, nat_lt, Result, Ok, Err}
 use Rattle.slot_counter.specs.declared.SlotEpoch.{SlotEpoch}
 use Rattle.slot_counter.specs.declared.SlotEpoch.TheVariants.{Epoch0, Epoch4, Epoch8, EpochC}
-use Rattle.slot_counter.specs.declared.Numbered.{Numbered}
-use Rattle.slot_counter.specs.declared.Numbered.TheVariants.{Number, Invalid}
-use Rattle.slot_counter.specs.declared.Since.{Since}
-use Rattle.slot_counter.specs.declared.Since.TheVariants.{Slots, Bad}
+use Rattle.slot_counter.specs.declared.SlotNumber.{SlotNumber}
+use Rattle.slot_counter.specs.declared.InvalidSlotNumber.{InvalidSlotNumber}
 
 -- slot_counter.rs, `SlotEpoch`: Epoch0 = 0, Epoch4 = 1, Epoch8 = 2, EpochC = 3: the index of each
 abbrev pub index_of : SlotEpoch → ℕ
@@ -31,8 +29,8 @@ unfoldable pub new_of : SlotEpoch → ℕ → ℕ
 new_of e n = bit_or (index_of e * 0x4000) n
 
 -- slot_counter.rs, `SlotNumber`: slot numbers range from 0 to 11999 inclusive; a value that is over is told
-unfoldable pub slot_number_of : ℕ → Numbered
-slot_number_of n = cond (nat_le n 11999) (Number (record { 0 = n })) (Invalid (record { 0 = n }))
+unfoldable pub slot_number_of : ℕ → Result SlotNumber InvalidSlotNumber
+slot_number_of n = cond (nat_le n 11999) (Ok (record { 0 = n })) (Err (record { 0 = n }))
 
 -- slot_counter.rs: SlotEpoch addition wraps: it goes around the four
 unfoldable pub added_of : SlotEpoch → ℕ → SlotEpoch
@@ -52,8 +50,8 @@ abbrev pub apart : ℕ → ℕ → ℕ
 apart now past = cond (nat_lt past now) (now - past) (48000 - past + now)
 
 -- slot_counter.rs, `slots_since`: a bad slot number is told instead, the present counter's before the past one's
-unfoldable pub slots_since_of : ℕ → ℕ → Since
+unfoldable pub slots_since_of : ℕ → ℕ → Result ℕ InvalidSlotNumber
 slots_since_of now past =
     cond (nat_le (number_in now) 11999)
-    (cond (nat_le (number_in past) 11999) (Slots (apart (abs_in now) (abs_in past))) (Bad (record { 0 = number_in past })))
-    (Bad (record { 0 = number_in now }))
+    (cond (nat_le (number_in past) 11999) (Ok (apart (abs_in now) (abs_in past))) (Err (record { 0 = number_in past })))
+    (Err (record { 0 = number_in now }))

@@ -1,3 +1,4 @@
+pub mod Numbers
 pub mod Soundness
 pub mod Places
 pub mod Log

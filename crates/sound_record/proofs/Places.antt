@@ -2,14 +2,16 @@
 -- Assumes nothing.
 use mathlib.Core.Path.{◌≡◌, refl, sym, ◌∙◌, ap}
 use Prim.Native.Nat.{ℕ, ◌+◌, ◌-◌, ◌≤◌, ◌<◌}
-use mathlib.Core.Bool.{Bool, true, false, cond}
+use mathlib.Core.Bool.{Bool, true, false}
 use mathlib.Core.List.{List, ◌++◌}
+use Rattle.std.specs.Prelude.{Some, None}
+use Rattle.std.specs.Bool.{then_some}
+use Rattle.std.specs.List.{slice_range}
 use native.Mathlib.Omega.{arith}
 use lib.ListN.{length, take, drop, length-take, length-drop, take-append-drop, get_or-append}
-use lib.Seq.{get_or-take, get_or-drop, length-take-le, take-append_seam, drop-append_seam}
+use lib.Seq.{get_or-take, get_or-drop, length-take-le, take_all, take-append_seam, drop-append_seam}
 use Rattle.laws.specs.Bytes.{be16_at}
 use Rattle.sound_record.specs.Record.{body_start, sound_at, record_at, stands_at}
-use Rattle.sound_record.specs.declared.Stands.TheVariants.{Record, Nothing}
 use Rattle.sound_record.proofs.Soundness.{body_start-least, sound-parts, not_sound}
 
 -- a start of a list is as many of its elements as the start has
@@ -24,36 +26,42 @@ module _ (v : ℕ) (log : List ℕ) (at : ℕ) where
       let z : at + 0 ≡ at = omega arith in
       rw (get_or-take n (drop at log) 0 0 (omega arith), get_or-take n (drop at log) (0 + 1) 0 (omega arith), get_or-drop at log 0 0, get_or-drop at log (0 + 1) 0, z)
 
-  pub stands-sound : sound_at v (record_at log at) ≡ true → stands_at v log at ≡ Record (at + length (record_at log at))
+  pub stands-sound : sound_at v (record_at log at) ≡ true → stands_at v log at ≡ Some (at + length (record_at log at))
   unfolding stands_at
   stands-sound e = rw e
 
-  pub stands-nothing : sound_at v (record_at log at) ≡ false → stands_at v log at ≡ Nothing
+  pub stands-nothing : sound_at v (record_at log at) ≡ false → stands_at v log at ≡ None
   unfolding stands_at
   stands-nothing e = rw e
 
   -- fewer bytes are left than the least record has
-  pub stands-few : length log - at < body_start v → stands_at v log at ≡ Nothing
+  pub stands-few : length log - at < body_start v → stands_at v log at ≡ None
   stands-few h = stands-nothing (not_sound v (record_at log at) (λ p. omega (arith, simp (length-take, length-drop) at p.head)))
 
   -- fewer bytes are left than the length says
-  pub stands-cut : length log - at < 2 + be16_at log at → stands_at v log at ≡ Nothing
+  pub stands-cut : length log - at < 2 + be16_at log at → stands_at v log at ≡ None
   stands-cut h =
       stands-nothing
       (not_sound v (record_at log at) (λ p. omega (arith, simp (length-take, length-drop) at p.whole, be16_at-record_at)))
 
-  -- the record lies within the log, and a test of just its bytes decides
-  module _ (n : ℕ) (e : n ≡ 2 + be16_at log at) (h : n ≤ length log - at) (t : Bool) (u : t ≡ sound_at v (take (at + n - at) (drop at log))) where
-    same : take (at + n - at) (drop at log) ≡ record_at log at
-    same = let f : at + n - at ≡ 2 + be16_at log at = omega arith in rw f
+  -- what the log has from the place on, as a slice of it
+  module _ (rest : List ℕ) (s : rest ≡ slice_range log at (length log)) where
+    rest-drop : rest ≡ drop at log
+    rest-drop = s ∙ take_all (length log - at) (drop at log) (simp length-drop (omega arith))
 
-    pub stands-tested : t ≡ true → Record (at + n) ≡ stands_at v log at
-    stands-tested s =
-        let l : length (record_at log at) ≡ 2 + be16_at log at = length-take-le (2 + be16_at log at) (drop at log) (simp length-drop (omega arith)) in
-        sym (stands-sound (ap (sound_at v) (sym same) ∙ sym u ∙ s) ∙ rw (l, e))
+    -- the length is read there
+    pub be16_at-rest : be16_at rest 0 ≡ be16_at log at
+    be16_at-rest = let z : at + 0 ≡ at = omega arith in rw (rest-drop, get_or-drop at log 0 0, get_or-drop at log (0 + 1) 0, z)
 
-    pub stands-tested-not : t ≡ false → Nothing ≡ stands_at v log at
-    stands-tested-not s = sym (stands-nothing (ap (sound_at v) (sym same) ∙ sym u ∙ s))
+    -- the record lies within the log, and a test of just its bytes decides
+    pub stands-tested : (n : ℕ) → n ≡ 2 + be16_at rest 0 → n ≤ length rest → (r : List ℕ) → r ≡ slice_range rest 0 n
+        → then_some (sound_at v r) (at + n) ≡ stands_at v log at
+    unfolding stands_at
+    stands-tested n e h r q =
+        let f : n ≡ 2 + be16_at log at = e ∙ ap (λ (k : ℕ). 2 + k) be16_at-rest in
+        let l : length (record_at log at) ≡ n = length-take-le (2 + be16_at log at) (drop at log) (omega (arith, ap length rest-drop)) ∙ sym f in
+        let same : r ≡ record_at log at = q ∙ (let z : n - 0 ≡ n = omega arith in rw (z, rest-drop, ← f)) in
+        rw (same, l)
 
 -- bytes that end where their length says
 pub record Ended (r : List ℕ) : Type 0 where
@@ -93,18 +101,18 @@ module _ (v : ℕ) (r : List ℕ) (s : sound_at v r ≡ true) where
         let d : drop (length p) log ≡ r ++ x = drop-append_seam p (r ++ x) in
         ap (λ (n : ℕ). take (2 + n) (drop (length p) log)) (sym e) ∙ ap (λ (l : List ℕ). take (2 + be16_at l 0) l) d ∙ front r (sound-ended v r s) x
 
-    pub stands-within : stands_at v (p ++ (r ++ x)) (length p) ≡ Record (length p + length r)
+    pub stands-within : stands_at v (p ++ (r ++ x)) (length p) ≡ Some (length p + length r)
     stands-within =
         stands-sound v (p ++ (r ++ x)) (length p) (ap (sound_at v) record_at-within ∙ s)
-        ∙ ap (λ (l : List ℕ). Record (length p + length l)) record_at-within
+        ∙ ap (λ (l : List ℕ). Some (length p + length l)) record_at-within
 
 -- where a record is found, the bytes up to its end are sound, and lie within the log
 module _ (v : ℕ) (log : List ℕ) (at e : ℕ) where
-  found : stands_at v log at ≡ Record e → (sound_at v (record_at log at) ≡ true) × (e ≡ at + length (record_at log at))
+  found : stands_at v log at ≡ Some e → (sound_at v (record_at log at) ≡ true) × (e ≡ at + length (record_at log at))
   unfolding stands_at
   found = go (sound_at v (record_at log at)) refl
     where
-      go : (t : Bool) → sound_at v (record_at log at) ≡ t → cond t (Record (at + length (record_at log at))) Nothing ≡ Record e
+      go : (t : Bool) → sound_at v (record_at log at) ≡ t → then_some t (at + length (record_at log at)) ≡ Some e
           → (sound_at v (record_at log at) ≡ true) × (e ≡ at + length (record_at log at))
       go true s f = (s, cc)
       go false s f = let z : ◌≡◌ {A = ℕ} 0 1 = cc in absurd (omega arith)
@@ -113,13 +121,13 @@ module _ (v : ℕ) (log : List ℕ) (at e : ℕ) where
   within h = let i = simp (length-take, length-drop) at h in simp (length-take, length-drop) (omega arith)
 
   -- it has at least the bytes before a body, and ends within the log
-  pub stands-ahead : stands_at v log at ≡ Record e → (at + body_start v ≤ e) × (e ≤ length log)
+  pub stands-ahead : stands_at v log at ≡ Some e → (at + body_start v ≤ e) × (e ≤ length log)
   stands-ahead f =
       let r = found f in
       let p = sound-parts v (record_at log at) r.0 in
       (omega (arith, p.head, r.1), omega (arith, r.1, within p.head))
 
-  pub stands-bytes : stands_at v log at ≡ Record e → sound_at v (take (e - at) (drop at log)) ≡ true
+  pub stands-bytes : stands_at v log at ≡ Some e → sound_at v (take (e - at) (drop at log)) ≡ true
   stands-bytes f =
       let r = found f in
       let l = length (record_at log at) in

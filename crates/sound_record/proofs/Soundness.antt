@@ -1,5 +1,5 @@
 -- Laws of soundness: what a body of each kind must be, and the parts of a sound record. Assumes nothing.
-use mathlib.Core.Path.{◌≡◌, refl, ◌∙◌}
+use mathlib.Core.Path.{◌≡◌, refl, sym, ◌∙◌}
 use Prim.Native.Nat.{ℕ, ◌+◌, ◌≤◌, ◌<◌}
 use mathlib.Core.Bool.{Bool, true, false, ◌&&◌, and-false}
 use mathlib.Core.List.{List, []}
@@ -11,6 +11,10 @@ use Rattle.laws.specs.Bytes.{be16_at}
 use Rattle.utf8.specs.Scan.{is_text}
 use Rattle.network.specs.Split.{packet_size}
 use Rattle.address.specs.Address.{id_limit}
+use Rattle.std.specs.Prelude.{◌≢◌}
+use Rattle.sound_record.specs.declared.Kind.{Kind}
+use Rattle.sound_record.specs.declared.Kind.TheVariants.{EnumerationStarted, Identity, VersionText, EnumerationEnded, SlotCaptured, SlotCounter, Packet, Command}
+use Rattle.sound_record.specs.Kinds.{number_of}
 use Rattle.sound_record.specs.Record.{written, version_at, kind_at, gateway_at, gateway_end, between, body_start, is_counter, is_body, sound_body, whole, shows, all_below, sound_at}
 
 -- a test that a later one implies need not be asked
@@ -99,11 +103,20 @@ module _ (v : ℕ) (b : List ℕ) where
   sound_body-8-short h =
       rw (lt-leb (3 + get_or b 1 0) (length b) (omega arith), and-false (ltb (get_or b 1 0) 256)) (and-false (leb (length b) 1025))
 
-  pub sound_body-other : (k : ℕ) → (k ≡ 1 → ⊥) → (k ≡ 2 → ⊥) → (k ≡ 3 → ⊥) → (k ≡ 4 → ⊥) → (k ≡ 5 → ⊥) → (k ≡ 6 → ⊥) → (k ≡ 7 → ⊥) → (k ≡ 8 → ⊥)
-      → sound_body v k b ≡ false
+  -- a number that no kind has
+  pub sound_body-other : (n : ℕ) → ((kind : Kind) → number_of kind ≢ n) → sound_body v n b ≡ false
   unfolding sound_body is_body
-  sound_body-other k h₁ h₂ h₃ h₄ h₅ h₆ h₇ h₈ =
-      rw (ne_eqb k 1 h₁, ne_eqb k 2 h₂, ne_eqb k 3 h₃, ne_eqb k 4 h₄, ne_eqb k 5 h₅, ne_eqb k 6 h₆, ne_eqb k 7 h₇, ne_eqb k 8 h₈)
+  sound_body-other n h =
+      rw (
+        ne_eqb n 1 (λ e. h EnumerationStarted (sym e)),
+        ne_eqb n 2 (λ e. h Identity (sym e)),
+        ne_eqb n 3 (λ e. h VersionText (sym e)),
+        ne_eqb n 4 (λ e. h EnumerationEnded (sym e)),
+        ne_eqb n 5 (λ e. h SlotCaptured (sym e)),
+        ne_eqb n 6 (λ e. h SlotCounter (sym e)),
+        ne_eqb n 7 (λ e. h Packet (sym e)),
+        ne_eqb n 8 (λ e. h Command (sym e)),
+      )
       (and-false (leb (length b) 1024))
 
 -- a body stands behind the gateway, in any version

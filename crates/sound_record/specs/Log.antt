@@ -1,8 +1,7 @@
 -- A log, a house form: sound records, one behind the other.
 -- Which records are sound is a test: `sound_at v` for a log of one version, `sound_in vs` for a mixture of several. Assumes nothing.
-use Rattle.std.specs.Prelude.{ℕ, ◌+◌, ◌≡◌, Bool, true, ◌&&◌, List, [], ◌∷◌, ◌++◌, length, take, drop}
+use Rattle.std.specs.Prelude.{ℕ, ◌+◌, ◌≡◌, Bool, true, ◌&&◌, List, [], ◌∷◌, ◌++◌, length, take, drop, Some}
 use Rattle.sound_record.specs.Record.{stands_at}
-use Rattle.sound_record.specs.declared.Stands.TheVariants.{Record}
 
 -- the bytes of records, one behind the other
 abbrev pub joined : List (List ℕ) → List ℕ
@@ -22,7 +21,7 @@ pub record Log (sound : List ℕ → Bool) (log : List ℕ) : Type 0 where
 
 -- a reader of version v finds a record at a place of a log, and it is this one
 pub record Here (v : ℕ) (log : List ℕ) (at : ℕ) (r : List ℕ) : Type 0 where
-  pub stands : stands_at v log at ≡ Record (at + length r)
+  pub stands : stands_at v log at ≡ Some (at + length r)
   pub bytes : take (length r) (drop at log) ≡ r
 
 -- from a place on it finds these records and no more

@@ -1,12 +1,11 @@
 -- The event record, a house form: when a record is sound at a version. What depends on the version stands in functions
 -- of it; of version 1, which is written, they say what 01 says. Assumes nothing.
-use Rattle.std.specs.Prelude.{ℕ, ◌+◌, ◌^◌, Bool, true, false, cond, ◌&&◌, List, [], ◌∷◌, length, get_or, take, drop, leb, ltb, eqb}
+use Rattle.std.specs.Prelude.{ℕ, ◌+◌, ◌^◌, Bool, true, false, cond, ◌&&◌, List, [], ◌∷◌, length, get_or, take, drop, leb, ltb, eqb, Option}
+use Rattle.std.specs.Bool.{then_some}
 use Rattle.laws.specs.Bytes.{be16_at}
 use Rattle.address.specs.Address.{id_limit}
 use Rattle.utf8.specs.Scan.{is_text}
 use Rattle.network.specs.Split.{packet_size}
-use Rattle.sound_record.specs.declared.Stands.{Stands}
-use Rattle.sound_record.specs.declared.Stands.TheVariants.{Record, Nothing}
 
 -- 01, "Event record": version 1
 abbrev pub written : ℕ
@@ -82,7 +81,7 @@ sound_body v kind body = leb (length body) (body_limit v kind) && is_body v kind
 abbrev pub whole : List ℕ → Bool
 whole r = eqb (length r) (2 + be16_at r 0)
 
--- a record shows a version if its length reaches to that byte: a length of 0 shows none
+-- a record shows a version if its length reaches to that byte: a length of 0 shows None
 abbrev pub shows : ℕ → List ℕ → Bool
 shows v r = ltb 0 (be16_at r 0) && (ltb version_at (length r) && eqb (get_or r version_at 0) v)
 
@@ -112,6 +111,6 @@ sound_in (v ∷ vs) r = cond (sound_at v r) true (sound_in vs r)
 abbrev pub record_at : List ℕ → ℕ → List ℕ
 record_at log at = take (2 + be16_at log at) (drop at log)
 
--- what stands at a place of a log: a sound record, and where it ends, or none
-unfoldable pub stands_at : ℕ → List ℕ → ℕ → Stands
-stands_at v log at = cond (sound_at v (record_at log at)) (Record (at + length (record_at log at))) Nothing
+-- what stands at a place of a log: a sound record, by where it ends, or None
+unfoldable pub stands_at : ℕ → List ℕ → ℕ → Option ℕ
+stands_at v log at = then_some (sound_at v (record_at log at)) (at + length (record_at log at))

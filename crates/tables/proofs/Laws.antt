@@ -1,13 +1,14 @@
--- Laws of searches in a list of keys: bounds, and one step of each loop. Assumes nothing.
-use mathlib.Core.Path.{◌≡◌, refl, ◌∙◌}
-use Prim.Native.Nat.{ℕ, zero, suc, ◌+◌, ◌≤◌, ◌<◌}
-use mathlib.Core.Bool.{Bool, true, false, cond, not, ◌&&◌}
+-- Laws of searches in a list of keys: bounds, and what each search of std gives. Assumes nothing.
+use mathlib.Core.Path.{◌≡◌, refl, ap}
+use Prim.Native.Nat.{ℕ, zero, suc, ◌≤◌, ◌<◌}
+use mathlib.Core.Bool.{Bool, true, false, cond, not, ◌&&◌, ◌||◌}
 use mathlib.Core.List.{List, [], ◌∷◌}
 use native.Mathlib.Omega.{arith}
-use lib.ListN.{length, get_or, drop, drop_of_length-le}
-use lib.Seq.{drop-cons, drop-drop, get_or-drop}
+use lib.ListN.{length, get_or}
 use lib.Dec.{eqb, ltb}
-use borrow.Author.Tests.{eqb-true, eqb-false, eq-eqb, ne_eqb, lt-ltb, le-ltb}
+use borrow.Author.Tests.{eqb-true, eqb-false, le-ltb}
+use Rattle.std.specs.List.{list_any, position_or_len, zip}
+use Rattle.std.proofs.lemmas.List.Recursion.{is_position_or_len}
 use Rattle.tables.specs.Keys.{first_of, any_over, over_of}
 
 -- a place or the number of places
@@ -41,34 +42,21 @@ first-first (x ∷ xs) k i h e = go (eqb x k) refl (first-first xs k) i h e
     go false q r zero h e = eqb-false x k q e
     go false q r (suc i) h e = r i (omega arith) e
 
--- one step of the search, and its end: `find` cites these
-pub first-here : (l : List ℕ) (k i : ℕ) → i < length l → get_or l i 0 ≡ k → first_of (drop i l) k ≡ 0
+-- what a search by the key gives (`position`) is that place
+pub first-position : (l : List ℕ) (k : ℕ) → first_of l k ≡ position_or_len (λ x. eqb x k) l
 unfolding first_of
-first-here l k i h e = rw (drop-cons l i 0) (rw (eq-eqb _ _ e))
+first-position l k =
+    is_position_or_len (λ xs. first_of xs k) (λ x. eqb x k) refl (λ x xs. ap (cond (eqb x k) 0) (omega arith)) l
 
-pub first_past : (l : List ℕ) (k i : ℕ) → i < length l → (get_or l i 0 ≡ k → ⊥) → first_of (drop i l) k ≡ suc (first_of (drop (suc i) l) k)
-unfolding first_of
-first_past l k i h n = rw (drop-cons l i 0) (rw (ne_eqb _ _ n))
-
-pub first-end : (l : List ℕ) (k i : ℕ) → length l ≤ i → first_of (drop i l) k ≡ 0
-unfolding first_of
-first-end l k i h = rw (drop_of_length-le l h)
-
--- one step of the look for a length over the limit, and its end: `any_over` cites these
-module _ (limit : ℕ) (l : List ℕ) (i : ℕ) where
-  pub any_here : i < length l → limit < get_or l i 0 → (b : Bool) → cond b true (any_over (drop i l) limit) ≡ true
-  unfolding any_over
-  any_here h o true = refl
-  any_here h o false = rw (drop-cons l i 0) (rw (lt-ltb _ _ o))
-
-  pub any-past : i < length l → get_or l i 0 ≤ limit → any_over (drop i l) limit ≡ any_over (drop (suc i) l) limit
-  unfolding any_over
-  any-past h o = rw (drop-cons l i 0) (rw (le-ltb _ _ o))
-
-  pub any-end : length l ≤ i → (b : Bool) → cond b true (any_over (drop i l) limit) ≡ b
-  unfolding any_over
-  any-end h true = refl
-  any-end h false = rw (drop_of_length-le l h)
+-- .. and what a look for a length over the limit gives (`any`)
+pub any-list : (l : List ℕ) (limit : ℕ) → any_over l limit ≡ list_any (λ n. ltb limit n) l
+unfolding any_over
+any-list [] limit = refl
+any-list (n ∷ ns) limit = rw (any-list ns limit) (go (ltb limit n))
+  where
+    go : (t : Bool) → cond t true (list_any (λ n. ltb limit n) ns) ≡ (t || list_any (λ n. ltb limit n) ns)
+    go true = refl
+    go false = refl
 
 -- with no length over the limit no held place has one
 pub over_none : (keys lengths : List ℕ) (limit : ℕ) → any_over lengths limit ≡ false → over_of keys lengths limit ≡ false
@@ -87,28 +75,13 @@ over_none (k ∷ ks) (n ∷ ns) limit h = go (eqb k 0) (ltb limit n) h (over_non
     go true false e r = r e
     go false false e r = r e
 
--- one step of the look over the held places, and its end: `over` cites these
-module _ (keys lengths : List ℕ) (limit i : ℕ) where
-  over-step : i < length keys → over_of (drop i keys) (drop i lengths) limit ≡ cond (not (eqb (get_or keys i 0) 0) && ltb limit (get_or lengths i 0)) true (over_of (drop (suc i) keys) (drop (suc i) lengths) limit)
-  unfolding over_of
-  over-step h = rw (drop-cons keys i 0) (rw (get_or-drop i lengths 0 0, drop-drop 1 i lengths) (go (i + 0) (omega arith) (i + 1) (omega arith)))
-    where
-      go : (a : ℕ) → a ≡ i → (b : ℕ) → b ≡ suc i → cond (not (eqb (get_or keys i 0) 0) && ltb limit (get_or lengths a 0)) true (over_of (drop (suc i) keys) (drop b lengths) limit) ≡ cond (not (eqb (get_or keys i 0) 0) && ltb limit (get_or lengths i 0)) true (over_of (drop (suc i) keys) (drop (suc i) lengths) limit)
-      go a p b q = rw (p, q)
-
-  pub over-here : i < length keys → (get_or keys i 0 ≡ 0 → ⊥) → limit < get_or lengths i 0 → over_of (drop i keys) (drop i lengths) limit ≡ true
-  over-here h n o = over-step h ∙ rw (ne_eqb _ _ n, lt-ltb _ _ o)
-
-  pub over-low : i < length keys → get_or lengths i 0 ≤ limit → over_of (drop i keys) (drop i lengths) limit ≡ over_of (drop (suc i) keys) (drop (suc i) lengths) limit
-  over-low h o = over-step h ∙ rw (le-ltb _ _ o) (go (eqb (get_or keys i 0) 0))
-    where
-      go : (b : Bool) → cond (not b && false) true (over_of (drop (suc i) keys) (drop (suc i) lengths) limit) ≡ over_of (drop (suc i) keys) (drop (suc i) lengths) limit
-      go true = refl
-      go false = refl
-
-  pub over-free : i < length keys → get_or keys i 0 ≡ 0 → over_of (drop i keys) (drop i lengths) limit ≡ over_of (drop (suc i) keys) (drop (suc i) lengths) limit
-  over-free h e = over-step h ∙ rw (eq-eqb _ _ e)
-
-  pub over-end : length keys ≤ i → over_of (drop i keys) (drop i lengths) limit ≡ false
-  unfolding over_of
-  over-end h = rw (drop_of_length-le keys h)
+-- what a look over keys and lengths side by side gives: behind the last length no place is over
+pub over-pairs : (keys lengths : List ℕ) (limit : ℕ) → over_of keys lengths limit ≡ list_any (λ p. not (eqb p.0 0) && ltb limit p.1) (zip keys lengths)
+unfolding over_of any_over
+over-pairs [] lengths limit = refl
+over-pairs (k ∷ ks) [] limit = over_none (k ∷ ks) [] limit refl
+over-pairs (k ∷ ks) (n ∷ ns) limit = rw (over-pairs ks ns limit) (go (not (eqb k 0) && ltb limit n))
+  where
+    go : (t : Bool) → cond t true (list_any (λ p. not (eqb p.0 0) && ltb limit p.1) (zip ks ns)) ≡ (t || list_any (λ p. not (eqb p.0 0) && ltb limit p.1) (zip ks ns))
+    go true = refl
+    go false = refl

@@ -1,24 +1,20 @@
 -- A receive response: which fields it has, and what refuses it. Assumes nothing.
-use Rattle.std.specs.Prelude.{ℕ, ◌+◌, Bool, cond, List, length, nat_lt, slice_index}
+use Rattle.std.specs.Prelude.{ℕ, ◌+◌, Bool, cond, List, [], ◌∷◌, length, nat_lt, slice_index, Option, Some, None, Result, Ok, Err}
 use Rattle.laws.specs.Bytes.{be16_at}
 use Rattle.laws.specs.Numbers.{number_of as refusal_number, wrong_status, too_short}
-use Rattle.transport.specs.declared.OptionalByte.{OptionalByte}
-use Rattle.transport.specs.declared.OptionalByte.TheVariants.{One, NoByte}
-use Rattle.transport.specs.declared.OptionalPair.{OptionalPair}
-use Rattle.transport.specs.declared.OptionalPair.TheVariants.{Two, NoPair}
 use Rattle.transport.specs.declared.ReceiveResponse.{ReceiveResponse}
-use Rattle.transport.specs.declared.ReceiveRead.{ReceiveRead}
-use Rattle.transport.specs.declared.ReceiveRead.TheVariants.{Response, TooShort, UnknownStatusType}
+use Rattle.transport.specs.declared.ReceiveResponseError.{ReceiveResponseError}
+use Rattle.transport.specs.declared.ReceiveResponseError.TheVariants.{TooShort, UnknownStatusType}
 use Rattle.transport.specs.Status.{accepted_of, clear, rx_buffers_used_at, tx_buffers_free_at, unknown_aat, unknown_bat, slot_counter_at, needed_of}
 use Rattle.transport.specs.Number.{number_of}
 
 -- 01, "Transport": each present while its bit is clear: 0x01 one byte, 0x02 one ..
-abbrev pub byte_in : Bool → List ℕ → ℕ → OptionalByte
-byte_in there p at = cond there (One (slice_index p at)) NoByte
+abbrev pub byte_in : Bool → List ℕ → ℕ → Option ℕ
+byte_in there p at = cond there (Some (slice_index p at)) None
 
 -- .. 0x04 two, 0x08 two
-abbrev pub pair_in : Bool → List ℕ → ℕ → OptionalPair
-pair_in there p at = cond there (Two (slice_index p at) (slice_index p (at + 1))) NoPair
+abbrev pub pair_in : Bool → List ℕ → ℕ → Option (List ℕ)
+pair_in there p at = cond there (Some (slice_index p at ∷ slice_index p (at + 1) ∷ [])) None
 
 -- 01, "Transport": fields follow, then the packet number, then slot counter: those of a response with this status
 -- word, after the packet number old
@@ -33,14 +29,18 @@ response_in status p old =
       slot_counter = record { 0 = be16_at p (slot_counter_at status) };
     }
 
+-- what is read of a payload: the fields and where the packet area starts, or why it is no receive response
+abbrev pub Read : Type 0
+Read = Result (ReceiveResponse × ℕ) ReceiveResponseError
+
 -- 01, "Numbers handed back", for a receive response: 23 if under 2 bytes (5 is needed), then 22, then 23 with the length needed
-unfoldable pub receive_read_of : List ℕ → ℕ → ReceiveRead
+unfoldable pub receive_read_of : List ℕ → ℕ → Read
 receive_read_of p old =
-    cond (nat_lt (length p) 2) (TooShort 5)
+    cond (nat_lt (length p) 2) (Err (TooShort 5))
     (cond (accepted_of (be16_at p 0))
-    (cond (nat_lt (length p) (needed_of (be16_at p 0))) (TooShort (needed_of (be16_at p 0)))
-    (Response (response_in (be16_at p 0) p old) (needed_of (be16_at p 0))))
-    (UnknownStatusType (be16_at p 0)))
+    (cond (nat_lt (length p) (needed_of (be16_at p 0))) (Err (TooShort (needed_of (be16_at p 0))))
+    (Ok (response_in (be16_at p 0) p old, needed_of (be16_at p 0))))
+    (Err (UnknownStatusType (be16_at p 0))))
 
 -- a number of 01's table and the value that goes with it, or the fields and where the packet area starts
 pub data Told : Type 0 where
@@ -48,7 +48,7 @@ pub data Told : Type 0 where
   fields : ReceiveResponse → ℕ → Told
 
 -- 01, "Numbers handed back", 23: gives the length needed; 22 goes with the status word
-abbrev pub handed_read : ReceiveRead → Told
-handed_read (Response r area) = fields r area
-handed_read (TooShort n) = refused (refusal_number too_short) n
-handed_read (UnknownStatusType status) = refused (refusal_number wrong_status) status
+abbrev pub handed_read : Read → Told
+handed_read (Ok r) = fields r.0 r.1
+handed_read (Err (TooShort n)) = refused (refusal_number too_short) n
+handed_read (Err (UnknownStatusType status)) = refused (refusal_number wrong_status) status

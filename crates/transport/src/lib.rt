@@ -7,7 +7,6 @@ ghost use Rattle.transport.specs.Number.{interpret_of};
 ghost use Rattle.transport.specs.Response.{receive_read_of};
 
 use slot_counter::SlotCounter;
-use words::be16;
 
 mod receive_response;
 
@@ -30,53 +29,36 @@ pub fn accepted(status: u16) -> bool
 pub fn needed(status: u16) -> usize
     ensures { result ≡ needed_of status }
 {
-    12 - (u16::count_ones(status & 0x13) as usize) - 2 * (u16::count_ones(status & 0x0c) as usize)
+    12 - (status & 0x13).count_ones() as usize - 2 * (status & 0x0c).count_ones() as usize
 }
 
 // The packet number that its low byte stands for, after `old`.
+#[tactic(auto, unfolding(crate::specs::Number::interpret_of))]
 pub fn interpret_packet_number_lo(lo: u8, old: PacketNumber) -> PacketNumber
     ensures { result.0 ≡ interpret_of lo old.0 }
 {
-    let n = old.0;
-    let old_hi = (n / 256) as u8;
-    let old_lo = (n % 256) as u8;
+    let [old_hi, old_lo] = old.0.to_be_bytes();
     if lo >= old_lo {
-        return PacketNumber(be16(old_hi, lo));
+        return PacketNumber(u16::from_be_bytes([old_hi, lo]));
     }
-    let new_hi = std::num::wrapping_add_u8(old_hi, 1);
-    PacketNumber(be16(new_hi, lo))
-}
-
-// A byte that may be missing.
-#[derive(Clone, Copy)]
-pub enum OptionalByte {
-    One(u8),
-    NoByte,
-}
-
-// Two bytes that may be missing.
-#[derive(Clone, Copy)]
-pub enum OptionalPair {
-    Two(u8, u8),
-    NoPair,
+    let new_hi = old_hi.wrapping_add(1);
+    PacketNumber(u16::from_be_bytes([new_hi, lo]))
 }
 
 // A receive response frame payload, decoded into its most general form.
 #[derive(Clone, Copy)]
 pub struct ReceiveResponse {
-    pub rx_buffers_used: OptionalByte,
-    pub tx_buffers_free: OptionalByte,
-    pub unknown_a: OptionalPair,
-    pub unknown_b: OptionalPair,
+    pub rx_buffers_used: Option<u8>,
+    pub tx_buffers_free: Option<u8>,
+    pub unknown_a: Option<[u8; 2]>,
+    pub unknown_b: Option<[u8; 2]>,
     pub packet_number: PacketNumber,
     pub slot_counter: SlotCounter,
 }
 
-// What `ReceiveResponse::read` gives: the fields and where the packet area starts in the payload; or the refusal 23 with the length that is
-// needed; or the refusal 22 with the status word.
-#[derive(Clone, Copy)]
-pub enum ReceiveRead {
-    Response(ReceiveResponse, usize),
+// Why a payload is no receive response: the refusal 23 with the length that is needed, or the refusal 22 with the status word.
+#[derive(Clone, Copy, PartialEq, Eq)]
+pub enum ReceiveResponseError {
     TooShort(usize),
     UnknownStatusType(u16),
 }
@@ -84,20 +66,24 @@ pub enum ReceiveRead {
 impl ReceiveResponse {
     // The response that a payload is, after the packet number `old`, and where its packet area starts. Refused by 23 if under 2 bytes, then by 22,
     // then by 23.
-    pub fn read(payload: &[u8], old: PacketNumber) -> ReceiveRead
+    #[tactic(auto, unfolding(crate::specs::Response::receive_read_of))]
+    pub fn read(
+        payload: &[u8],
+        old: PacketNumber,
+    ) -> Result<(ReceiveResponse, usize), ReceiveResponseError>
         ensures { result ≡ receive_read_of payload.now old.0 }
     {
         if payload.len() < 2 {
-            return ReceiveRead::TooShort(5);
+            return Err(ReceiveResponseError::TooShort(5));
         }
-        let status = be16(payload[0], payload[1]);
+        let status = u16::from_be_bytes([payload[0], payload[1]]);
         if !accepted(status) {
-            return ReceiveRead::UnknownStatusType(status);
+            return Err(ReceiveResponseError::UnknownStatusType(status));
         }
         let area = needed(status);
         if payload.len() < area {
-            return ReceiveRead::TooShort(area);
+            return Err(ReceiveResponseError::TooShort(area));
         }
-        ReceiveRead::Response(receive_response::fields(payload, status, old), area)
+        Ok((receive_response::fields(payload, status, old), area))
     }
 }

@@ -1,5 +1,5 @@
 -- What the step does to the arrays is what 01's step does to the tables that they mean, type by type. Assumes nothing.
-use mathlib.Core.Path.{◌≡◌, sym, ◌∙◌}
+use mathlib.Core.Path.{◌≡◌, sym, ap, ◌∙◌}
 use Prim.Native.Nat.{ℕ, suc, ◌≤◌, ◌<◌}
 use mathlib.Core.Bool.{Bool, true, false}
 use mathlib.Core.List.{List}
@@ -27,7 +27,7 @@ use Rattle.plain_frames.specs.Plain.{identity_in, enumeration_end_in, version_in
 use Rattle.transport_receiver.specs.State.{Frame, state_of, command_in}
 use Rattle.transport_receiver.specs.Step.{step_of, handled_of, is_last, is_over_limit, reset_of}
 use Rattle.transport_receiver.specs.Handed.{told, told_reset}
-use Rattle.transport_receiver.specs.Lent.{noted_of, seated_of, after_asked, after_counted, after_requested, after_answered, after_received, handled_in, step_in, reset_in}
+use Rattle.transport_receiver.specs.Lent.{Stepped, WasReset, noted_of, seated_of, after_asked, after_counted, after_requested, after_answered, after_received, handled_in, step_in, reset_in}
 use Rattle.transport_receiver.specs.declared.Receiver.{Receiver}
 use Rattle.transport_receiver.proofs.Pool.{is_over_limit-places, stored-commands}
 use Rattle.laws.proofs.Cases.{by}
@@ -296,3 +296,10 @@ reset-refines r =
     by (over_of r.commands.keys r.commands.lengths kept_limit)
     (λ e. rw (is_over_limit-places r.commands.keys r.commands.types r.commands.lengths r.commands.payloads, e))
     (λ e. rw (is_over_limit-places r.commands.keys r.commands.types r.commands.lengths r.commands.payloads, e))
+
+-- what a function gives that is right over the arrays is right in 01's words
+pub step_means : (t : Stepped) (r : Receiver) → Sized r → (f : Frame) → t ≡ step_in r f → told f t ≡ step_of (state_of r) f
+step_means t r z f e = ap (told f) e ∙ refines r z f
+
+pub reset_means : (t : WasReset) (r : Receiver) → t ≡ reset_in r → told_reset t ≡ reset_of (state_of r)
+reset_means t r e = ap told_reset e ∙ reset-refines r

@@ -1,19 +1,28 @@
 -- What a frame does to a whole state whose arrays a function is lent. Assumes nothing.
-use Rattle.std.specs.Prelude.{ℕ, Bool, cond, List, [], replicate, eqb, ltb}
+use Rattle.std.specs.Prelude.{ℕ, Bool, cond, List, [], replicate, eqb, ltb, Result, Ok, Err}
 use Rattle.tables.specs.Keys.{over_of}
 use Rattle.answers.specs.Counters.{counter_count}
 use Rattle.answers.specs.Types
 use Rattle.receive_frames.specs.Receive.{Asked, receive_request_in, Received, receive_response_in}
 use Rattle.command_frames.specs.Command.{Noted, noted, Seated, Requested, command_request_in, Answered, command_response_in}
 use Rattle.plain_frames.specs.Plain.{Counted, untabled_in}
-use Rattle.answers.specs.declared.Answer.{Answer}
-use Rattle.answers.specs.declared.Answer.TheVariants.{OverLimit}
+use Rattle.answers.specs.Refusals.{Answer}
+use Rattle.answers.specs.declared.Refusal.TheVariants as refusal
 use Rattle.answers.specs.Stored.{kept_limit}
 use Rattle.answers.specs.Barred.{unless_barred}
 use Rattle.transport_receiver.specs.State.{Frame, payload_at}
 use Rattle.transport_receiver.specs.declared.Receiver.{Receiver}
-use Rattle.transport_receiver.specs.declared.Stepped.{Stepped}
-use Rattle.transport_receiver.specs.declared.WasReset.{WasReset}
+use Rattle.transport_receiver.specs.declared.OverLimit.{OverLimit}
+
+-- a state, and what the step that led to it answers
+pub record Stepped : Type 0 where
+  pub receiver : Receiver
+  pub answer : Answer
+
+-- what a reset of the counters gives: the state, and whether 12 refuses it
+pub record WasReset : Type 0 where
+  pub receiver : Receiver
+  pub answer : Result Unit OverLimit
 
 -- a state with other counters
 abbrev pub recounted : Receiver → List ℕ → Receiver
@@ -98,8 +107,8 @@ handled_in r f =
 -- the whole step: 12, 13 and 32 first, with nothing changed
 unfoldable pub step_in : Receiver → Frame → Stepped
 step_in r f =
-    cond (is_over_in r) (stepped OverLimit r)
-    (unless_barred f.gateway f.payload (λ a. stepped a r) (handled_in r f))
+    cond (is_over_in r) (stepped (Err refusal.OverLimit) r)
+    (unless_barred f.gateway f.payload (λ a. stepped (Err a) r) (handled_in r f))
 
 -- the payload at a place of the pool; empty where no such place or length is
 unfoldable pub request_payload : List ℕ → ℕ → ℕ → List ℕ
@@ -110,10 +119,15 @@ request_payload pool place size =
 abbrev pub counters_after : Bool → List ℕ → List ℕ
 counters_after over counters = cond over counters (replicate counter_count 0)
 
+-- .. and what it answers
+abbrev pub reset_answer : Bool → Result Unit OverLimit
+reset_answer over = cond over (Err (record {})) (Ok tt)
+
+-- an answer of the reset with the state after it
+abbrev pub was_reset : Result Unit OverLimit → Receiver → WasReset
+was_reset a r = record { answer = a; receiver = r }
+
 -- the whole reset: the counters after it, and whether 12 refused it
 unfoldable pub reset_in : Receiver → WasReset
 reset_in r =
-    record {
-      receiver = recounted r (counters_after (is_over_in r) r.counters);
-      over = is_over_in r;
-    }
+    was_reset (reset_answer (is_over_in r)) (recounted r (counters_after (is_over_in r) r.counters))

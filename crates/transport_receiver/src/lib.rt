@@ -1,48 +1,32 @@
 // The transport receiver (transport/receiver.rs): what a sound frame means.
 // The state is three tables of fixed size and 33 counters, held as arrays of numbers; specs/State.antt says what the arrays mean.
 // What each frame type does to them is in crates/receive_frames, crates/command_frames and crates/plain_frames.
-// `step_in` is lent the arrays; `Receiver::step` is the same by value.
+// `step_in` is lent the arrays, as C lends them; `Receiver::step` is the same over its own.
 #![tactic(auto)]
 
 ghost use Rattle.std.specs.Prelude.{◌≡◌};
-ghost use Rattle.address.specs.Address.{is_from, gateway_of};
 ghost use Rattle.tables.specs.Keys.{over_of};
 ghost use Rattle.answers.specs.Stored.{kept_limit};
-ghost use Rattle.transport_receiver.specs.State.{given, frame_of, state_of, fresh};
+ghost use Rattle.transport_receiver.specs.State.{frame_of, state_of, fresh};
 ghost use Rattle.transport_receiver.specs.Step.{step_of, reset_of};
 ghost use Rattle.transport_receiver.specs.Handed.{told, told_reset};
-ghost use Rattle.transport_receiver.specs.Lent.{arrays, stepped, handled_in, step_in, request_payload, counters_after, reset_in};
+ghost use Rattle.transport_receiver.specs.Lent.{arrays, stepped, handled_in, step_in, request_payload, reset_answer, counters_after, was_reset, reset_in};
 
-use address::{Address, GatewayID, ID_LIMIT};
+use address::Address;
+use answers::barred;
 use answers::entries::STRIDE;
 pub use answers::entries::{KEPT_LIMIT, POOL};
-pub use answers::{Answer, counters};
+pub use answers::{Accepted, Answer, Refusal, counters};
 use command_frames::{command_request, command_response};
-use link::{PAYLOAD_LIMIT, Type};
+use link::Type;
 use plain_frames::untabled;
 use receive_frames::{receive_request, receive_response};
 
-// The numbers of the types that touch a table.
-const RECEIVE_REQUEST: u16 = Type::RECEIVE_REQUEST.0;
-
-const RECEIVE_RESPONSE: u16 = Type::RECEIVE_RESPONSE.0;
-
-const COMMAND_REQUEST: u16 = Type::COMMAND_REQUEST.0;
-
-const COMMAND_RESPONSE: u16 = Type::COMMAND_RESPONSE.0;
-
-// 32 packet numbers: keys of gateways, numbers. A key of 0 is a free place, here and in the other two tables.
+// 32 places for what is stored of gateways: their keys, and the values. A key of 0 is a free place, here and in `Commands`.
 #[derive(Drop)]
-pub struct Numbers {
+pub struct Table<T> {
     pub keys: [u32; 32],
-    pub values: [u16; 32],
-}
-
-// 32 last sequences: keys of gateways, sequences.
-#[derive(Drop)]
-pub struct Sequences {
-    pub keys: [u32; 32],
-    pub values: [u8; 32],
+    pub values: [T; 32],
 }
 
 // 64 waiting commands: keys of gateway and sequence, packet types, payload lengths, and a part of the pool for each payload.
@@ -57,21 +41,20 @@ pub struct Commands {
 // The state: three tables and the counters, as arrays of numbers (`state_of` of specs/State.antt says what they mean).
 #[derive(Drop)]
 pub struct Receiver {
-    pub numbers: Numbers,
-    pub sequences: Sequences,
+    // The packet numbers, and the last command sequences.
+    pub numbers: Table<u16>,
+    pub sequences: Table<u8>,
     pub commands: Commands,
     // The counters, each at its place of `counters`.
     pub counters: [u64; 33],
 }
 
-// A state, and what the step that led to it answers.
-#[derive(Drop)]
-pub struct Stepped {
-    pub receiver: Receiver,
-    pub answer: Answer,
-}
+// The reset's refusal, 12: a held command's length is over its limit.
+#[derive(Clone, Copy, PartialEq, Eq)]
+pub struct OverLimit;
 
 // A frame that 12, 13 and 32 do not refuse, by its type.
+#[tactic(auto, unfolding(crate::specs::Lent::handled_in))]
 fn handled(
     nkeys: &mut [u32; 32],
     numbers: &mut [u16; 32],
@@ -82,62 +65,27 @@ fn handled(
     clengths: &mut [u16; 64],
     cpayloads: &mut [u8; POOL],
     counters: &mut [u64; 33],
-    from: bool,
-    gateway: GatewayID,
+    address: Address,
     frame_type: Type,
     payload: &[u8],
 ) -> Answer
-    ensures { stepped result (arrays nkeys.new numbers.new skeys.new sequences.new ckeys.new ctypes.new clengths.new cpayloads.new counters.new) ≡ handled_in (arrays nkeys.old numbers.old skeys.old sequences.old ckeys.old ctypes.old clengths.old cpayloads.old counters.old) (given from gateway.0 frame_type.0 payload.now) }
+    ensures { stepped result (arrays nkeys.new numbers.new skeys.new sequences.new ckeys.new ctypes.new clengths.new cpayloads.new counters.new) ≡ handled_in (arrays nkeys.old numbers.old skeys.old sequences.old ckeys.old ctypes.old clengths.old cpayloads.old counters.old) (frame_of address frame_type payload.now) }
 {
-    if frame_type.0 == RECEIVE_REQUEST {
-        return receive_request(nkeys, numbers, counters, from, gateway, payload);
-    }
-    if frame_type.0 == RECEIVE_RESPONSE {
-        return receive_response(nkeys, numbers, counters, from, gateway, payload);
-    }
-    if frame_type.0 == COMMAND_REQUEST {
-        return command_request(
-            skeys, sequences, ckeys, ctypes, clengths, cpayloads, counters, from, gateway, payload,
-        );
-    }
-    if frame_type.0 == COMMAND_RESPONSE {
-        return command_response(ckeys, ctypes, clengths, counters, from, gateway, payload);
-    }
-    untabled(counters, from, gateway, frame_type, payload)
-}
-
-fn is_from(address: Address) -> bool
-    ensures { result ≡ is_from address }
-{
-    match address {
-        Address::From(_) => true,
-        Address::To(_) => false,
+    match frame_type {
+        Type::RECEIVE_REQUEST => receive_request(nkeys, numbers, counters, address, payload),
+        Type::RECEIVE_RESPONSE => receive_response(nkeys, numbers, counters, address, payload),
+        Type::COMMAND_REQUEST => command_request(
+            skeys, sequences, ckeys, ctypes, clengths, cpayloads, counters, address, payload,
+        ),
+        Type::COMMAND_RESPONSE => {
+            command_response(ckeys, ctypes, clengths, counters, address, payload)
+        }
+        _ => untabled(counters, address, frame_type, payload),
     }
 }
 
-fn gateway_of(address: Address) -> GatewayID
-    ensures { result.0 ≡ gateway_of address }
-{
-    match address {
-        Address::From(id) => id,
-        Address::To(id) => id,
-    }
-}
-
-// Does nothing: of an array that is lent as a slice the length is known, which `step_in`'s second promise needs.
-fn show(
-    nkeys: &[u32],
-    numbers: &[u16],
-    skeys: &[u32],
-    sequences: &[u8],
-    ckeys: &[u32],
-    ctypes: &[u8],
-    clengths: &[u16],
-    cpayloads: &[u8],
-    counters: &[u64],
-) {}
-
-// One frame, over a state that is lent: for a loop that keeps the arrays in locals.
+// One frame, over a state that is lent, array by array: so C lends it, and a struct of them would be a copy.
+#[tactic(auto, unfolding(crate::specs::Lent::step_in))]
 pub fn step_in(
     nkeys: &mut [u32; 32],
     numbers: &mut [u16; 32],
@@ -156,26 +104,17 @@ pub fn step_in(
     ensures means { told (frame_of address frame_type payload.now) (stepped result (arrays nkeys.new numbers.new skeys.new sequences.new ckeys.new ctypes.new clengths.new cpayloads.new counters.new)) ≡ step_of (state_of (arrays nkeys.old numbers.old skeys.old sequences.old ckeys.old ctypes.old clengths.old cpayloads.old counters.old)) (frame_of address frame_type payload.now) }
 {
     if tables::over(ckeys, clengths, KEPT_LIMIT) {
-        return Answer::OverLimit;
+        return Err(Refusal::OverLimit);
     }
-    let gateway = gateway_of(address);
-    if ID_LIMIT < gateway.0 {
-        return Answer::InvalidGatewayID;
-    }
-    if PAYLOAD_LIMIT < payload.len() {
-        return Answer::PayloadTooLong;
-    }
-    let from = is_from(address);
-    show(
-        nkeys, numbers, skeys, sequences, ckeys, ctypes, clengths, cpayloads, counters,
-    );
+    barred(address, payload)?;
     handled(
-        nkeys, numbers, skeys, sequences, ckeys, ctypes, clengths, cpayloads, counters, from,
-        gateway, frame_type, payload,
+        nkeys, numbers, skeys, sequences, ckeys, ctypes, clengths, cpayloads, counters, address,
+        frame_type, payload,
     )
 }
 
 // The request's payload of a command at a place of the pool. It stays there until the place is used again. Empty where no such place or length is.
+#[tactic(auto, unfolding(crate::specs::Lent::request_payload))]
 pub fn request_payload(cpayloads: &[u8; POOL], place: usize, length: u16) -> &[u8]
     ensures { result.now ≡ request_payload cpayloads.now place length }
 {
@@ -192,23 +131,20 @@ pub fn request_payload(cpayloads: &[u8; POOL], place: usize, length: u16) -> &[u
     &pool[start..end]
 }
 
-// The counters of a state that is lent, set to 0: they are lent, and what 12 looks at. Whether 12 refuses it, with nothing changed.
-pub fn reset_in(ckeys: &[u32; 64], clengths: &[u16; 64], counters: &mut [u64; 33]) -> bool
-    ensures answer { result ≡ over_of ckeys.now clengths.now kept_limit }
+// The counters of a state that is lent, set to 0: they are lent, and what 12 looks at. Refused by 12, with nothing changed.
+pub fn reset_in(
+    ckeys: &[u32; 64],
+    clengths: &[u16; 64],
+    counters: &mut [u64; 33],
+) -> Result<(), OverLimit>
+    ensures answer { result ≡ reset_answer (over_of ckeys.now clengths.now kept_limit) }
     ensures zeros { counters.new ≡ counters_after (over_of ckeys.now clengths.now kept_limit) counters.old }
 {
     if tables::over(ckeys, clengths, KEPT_LIMIT) {
-        return true;
+        return Err(OverLimit);
     }
     *counters = [0; 33];
-    false
-}
-
-// What a reset of the counters gives: the state, and whether 12 refuses it.
-#[derive(Drop)]
-pub struct WasReset {
-    pub receiver: Receiver,
-    pub over: bool,
+    Ok(())
 }
 
 impl Receiver {
@@ -216,11 +152,11 @@ impl Receiver {
     pub fn new() -> Self
         ensures { result ≡ fresh }
     {
-        let numbers = Numbers {
+        let numbers = Table {
             keys: [0; 32],
             values: [0; 32],
         };
-        let sequences = Sequences {
+        let sequences = Table {
             keys: [0; 32],
             values: [0; 32],
         };
@@ -238,73 +174,37 @@ impl Receiver {
         }
     }
 
-    // One frame: `step_in`, by value.
-    pub fn step(self, address: Address, frame_type: Type, payload: &[u8]) -> Stepped
-        ensures exactly { result ≡ step_in self (frame_of address frame_type payload.now) }
-        ensures means { told (frame_of address frame_type payload.now) result ≡ step_of (state_of self) (frame_of address frame_type payload.now) }
+    // One frame: `step_in` over the receiver's own arrays.
+    pub fn step(&mut self, address: Address, frame_type: Type, payload: &[u8]) -> Answer
+        ensures exactly { stepped result self.new ≡ step_in self.old (frame_of address frame_type payload.now) }
+        ensures means { told (frame_of address frame_type payload.now) (stepped result self.new) ≡ step_of (state_of self.old) (frame_of address frame_type payload.now) }
     {
-        let n = self.numbers;
-        let mut nkeys = n.keys;
-        let mut numbers = n.values;
-        let s = self.sequences;
-        let mut skeys = s.keys;
-        let mut sequences = s.values;
-        let w = self.commands;
-        let mut ckeys = w.keys;
-        let mut ctypes = w.types;
-        let mut clengths = w.lengths;
-        let mut cpayloads = w.payloads;
-        let mut counters = self.counters;
-        let answer = step_in(
-            &mut nkeys,
-            &mut numbers,
-            &mut skeys,
-            &mut sequences,
-            &mut ckeys,
-            &mut ctypes,
-            &mut clengths,
-            &mut cpayloads,
-            &mut counters,
+        step_in(
+            &mut self.numbers.keys,
+            &mut self.numbers.values,
+            &mut self.sequences.keys,
+            &mut self.sequences.values,
+            &mut self.commands.keys,
+            &mut self.commands.types,
+            &mut self.commands.lengths,
+            &mut self.commands.payloads,
+            &mut self.counters,
             address,
             frame_type,
             payload,
-        );
-        let asked = Numbers {
-            keys: nkeys,
-            values: numbers,
-        };
-        let last = Sequences {
-            keys: skeys,
-            values: sequences,
-        };
-        let waiting = Commands {
-            keys: ckeys,
-            types: ctypes,
-            lengths: clengths,
-            payloads: cpayloads,
-        };
-        let receiver = Receiver {
-            numbers: asked,
-            sequences: last,
-            commands: waiting,
-            counters,
-        };
-        Stepped { receiver, answer }
+        )
     }
 
     // The counters set to 0, and nothing else. Refused by 12, with nothing changed.
-    pub fn reset_counters(mut self) -> WasReset
-        ensures exactly { result ≡ reset_in self }
-        ensures means { told_reset result ≡ reset_of (state_of self) }
+    #[tactic(auto, unfolding(crate::specs::Lent::reset_in))]
+    pub fn reset_counters(&mut self) -> Result<(), OverLimit>
+        ensures exactly { was_reset result self.new ≡ reset_in self.old }
+        ensures means { told_reset (was_reset result self.new) ≡ reset_of (state_of self.old) }
     {
-        let ckeys = self.commands.keys;
-        let clengths = self.commands.lengths;
-        let mut counters = self.counters;
-        let over = reset_in(&ckeys, &clengths, &mut counters);
-        self.counters = counters;
-        WasReset {
-            receiver: self,
-            over,
-        }
+        reset_in(
+            &self.commands.keys,
+            &self.commands.lengths,
+            &mut self.counters,
+        )
     }
 }

@@ -10,9 +10,11 @@ use lib.Dec.{eqb, ltb, eqb-suc-zero}
 use lib.ListN.{length, get_or, drop, drop_of_length-le}
 use lib.Seq.{drop-cons}
 use borrow.Author.Tests.{eqb-true, ltb-true, ltb-false, lt-ltb, le-ltb, eq-eqb, ne_eqb}
+use Rattle.std.specs.Prelude.{Option, Some, None}
+use Rattle.std.specs.Option.{option_map_or}
 use Rattle.utf8.specs.declared.Want.{Want}
 use Rattle.utf8.specs.Utf8.{Utf8, none, utf8_1, utf8_2, utf8_3_e0, utf8_3_e1, utf8_3_ed, utf8_3_ee, utf8_4_f0, utf8_4_f1, utf8_4_f4, Within, Tail, Text}
-use Rattle.utf8.specs.Scan.{want, between, never, lead_of, step_of, passes, is_utf8, is_text}
+use Rattle.utf8.specs.Scan.{want, between, lead_of, step_of, passes, is_utf8, is_text}
 
 ruleset tests = (rules, lt-ltb, le-ltb, eq-eqb, ne_eqb)
 
@@ -22,7 +24,11 @@ Rest zero lo hi s = Utf8 s
 Rest (suc k) lo hi [] = ⊥
 Rest (suc k) lo hi (b ∷ s) = Within lo hi b × Rest k 0x80 0xbf s
 
-cut : (P : Want → Type 0) {x y : Want} (m n : ℕ) → (m < n → P x) → (n ≤ m → P y) → P (cond (ltb m n) x y)
+abbrev Follows : List ℕ → Option Want → Type 0
+Follows s None = ⊥
+Follows s (Some w) = Rest w.left w.lo w.hi s
+
+cut : (P : Option Want → Type 0) {x y : Option Want} (m n : ℕ) → (m < n → P x) → (n ≤ m → P y) → P (cond (ltb m n) x y)
 cut P {x} {y} m n f g = go (ltb m n) refl
   where
     go : (t : Bool) → ltb m n ≡ t → P (cond t x y)
@@ -45,16 +51,13 @@ module _ (a : ℕ) where
   with3 lo hi (b ∷ c ∷ []) f r = absurd r.1.1
   with3 lo hi (b ∷ c ∷ d ∷ t) f r = f b c d t r.0 r.1.0 r.1.1.0 r.1.1.1
 
-  lost : (s : List ℕ) → Rest 1 1 0 s → Utf8 (a ∷ s)
-  lost s = with1 1 0 s (λ b t h r. absurd (omega arith))
-
 -- a character from its first byte and what must follow
-build : (a : ℕ) (s : List ℕ) → Rest (lead_of a).left (lead_of a).lo (lead_of a).hi s → Utf8 (a ∷ s)
+build : (a : ℕ) (s : List ℕ) → Follows s (lead_of a) → Utf8 (a ∷ s)
 unfolding lead_of
 build a s =
-    let P : Want → Type 0 = λ w. Rest w.left w.lo w.hi s → Utf8 (a ∷ s) in
+    let P : Option Want → Type 0 = λ w. Follows s w → Utf8 (a ∷ s) in
     cut P a 0x80 (λ h r. utf8_1 (omega arith) r) λ l.
-    cut P a 0xc2 (λ h. lost a s) λ l.
+    cut P a 0xc2 (λ h r. absurd r) λ l.
     cut P a 0xe0 (λ h. with1 a _ _ s (λ b t. utf8_2 (omega arith))) λ l.
     cut P a 0xe1 (λ h. with2 a _ _ s (λ b c t. utf8_3_e0 (omega arith))) λ l.
     cut P a 0xed (λ h. with2 a _ _ s (λ b c t. utf8_3_e1 (omega arith))) λ l.
@@ -62,33 +65,30 @@ build a s =
     cut P a 0xf0 (λ h. with2 a _ _ s (λ b c t. utf8_3_ee (omega arith))) λ l.
     cut P a 0xf1 (λ h. with3 a _ _ s (λ b c d t. utf8_4_f0 (omega arith))) λ l.
     cut P a 0xf4 (λ h. with3 a _ _ s (λ b c d t. utf8_4_f1 (omega arith))) λ l.
-    cut P a 0xf5 (λ h. with3 a _ _ s (λ b c d t. utf8_4_f4 (omega arith))) λ l. lost a s
+    cut P a 0xf5 (λ h. with3 a _ _ s (λ b c d t. utf8_4_f4 (omega arith))) λ l r. absurd r
 
 one_less : (k : ℕ) → suc k - 1 ≡ k
 one_less k = omega arith
 
-dead : (s : List ℕ) → passes never s ≡ true → ⊥
-unfolding passes step_of
-dead [] h = omega (arith, eqb-true 1 0 h)
-dead (b ∷ s) h =
-    let P : Want → Type 0 = λ w. passes w s ≡ true → ⊥ in
-    cut P b 1 (λ l. dead s) (λ l. cut P 0 b (λ g. dead s) (λ g. absurd (omega arith))) h
+onward : (s : List ℕ) → ((w : Want) → passes w s ≡ true → Rest w.left w.lo w.hi s) → (w : Option Want) → option_map_or (λ v. passes v s) w false ≡ true → Follows s w
+onward s f None h = cc
+onward s f (Some w) h = f w h
 
 sound : (k lo hi : ℕ) (s : List ℕ) → passes (want k lo hi) s ≡ true → Rest k lo hi s
 unfolding passes step_of
 sound zero lo hi [] h = none
 sound (suc k) lo hi [] h = omega (arith, eqb-true (suc k) 0 h)
-sound zero lo hi (b ∷ s) h = build b s (sound (lead_of b).left (lead_of b).lo (lead_of b).hi s h)
+sound zero lo hi (b ∷ s) h = build b s (onward s (λ w. sound w.left w.lo w.hi s) (lead_of b) h)
 sound (suc k) lo hi (b ∷ s) h =
-    let P : Want → Type 0 = λ w. passes w s ≡ true → Within lo hi b × Rest k 0x80 0xbf s in
-    cut P b lo (λ l h. absurd (dead s h)) (λ l. cut P hi b (λ g h. absurd (dead s h)) (λ g h. ((l, g), sound k 0x80 0xbf s h)))
+    let P : Option Want → Type 0 = λ w. option_map_or (λ v. passes v s) w false ≡ true → Within lo hi b × Rest k 0x80 0xbf s in
+    cut P b lo (λ l h. cc) (λ l. cut P hi b (λ g h. cc) (λ g h. ((l, g), sound k 0x80 0xbf s h)))
     (rw (eqb-suc-zero k, one_less) at h)
 
-eats : (k lo hi b : ℕ) → Within lo hi b → step_of (want (suc k) lo hi) b ≡ want k 0x80 0xbf
+eats : (k lo hi b : ℕ) → Within lo hi b → step_of (want (suc k) lo hi) b ≡ Some (want k 0x80 0xbf)
 unfolding step_of
 eats k lo hi b h = rw (eqb-suc-zero k, le-ltb b lo h.0, le-ltb hi b h.1, one_less)
 
-opens : (a : ℕ) (w : Want) → lead_of a ≡ w → step_of between a ≡ w
+opens : (a : ℕ) (w : Want) → lead_of a ≡ Some w → step_of between a ≡ Some w
 unfolding step_of
 opens a w h = h
 
@@ -109,7 +109,7 @@ pub passes-utf8 : (s : List ℕ) → (passes between s ≡ true) ↔ Utf8 s
 passes-utf8 s = (sound 0 0x80 0xbf s, complete)
 
 -- the loop's step and end
-pub passes-cons : (w : Want) (s : List ℕ) (i : ℕ) → i < length s → passes w (drop i s) ≡ passes (step_of w (get_or s i 0)) (drop (suc i) s)
+pub passes-cons : (w : Want) (s : List ℕ) (i : ℕ) → i < length s → passes w (drop i s) ≡ option_map_or (λ v. passes v (drop (suc i) s)) (step_of w (get_or s i 0)) false
 unfolding passes
 passes-cons w s i h = rw (drop-cons s i 0)
 

@@ -1,7 +1,7 @@
 // Whether bytes are UTF-8 (RFC 3629), in one pass: the test that stands for `str::from_utf8`.
 #![tactic(auto)]
 
-ghost use Rattle.std.specs.Prelude.{◌≡◌, ◌↔◌, true};
+ghost use Rattle.std.specs.Prelude.{◌≡◌, ◌↔◌, true, Some};
 ghost use Rattle.utf8.specs.Utf8.{Utf8, Text};
 ghost use Rattle.utf8.specs.Scan.{want, lead_of, step_of};
 
@@ -13,61 +13,42 @@ struct Want {
     hi: u8,
 }
 
-fn wants(left: u8, lo: u8, hi: u8) -> Want
-    ensures { result ≡ want left lo hi }
+fn wants(left: u8, lo: u8, hi: u8) -> Option<Want>
+    ensures { result ≡ Some (want left lo hi) }
 {
-    Want { left, lo, hi }
+    Some(Want { left, lo, hi })
 }
 
-// What a character wants after its first byte. A byte that begins none leaves a want that no byte satisfies.
-fn lead(b: u8) -> Want
+// What a character wants after its first byte; nothing after a byte that begins none.
+fn lead(b: u8) -> Option<Want>
     ensures { result ≡ lead_of b }
 {
-    if b < 0x80 {
+    // most bytes of a text are ASCII, so that these go first
+    if b.is_ascii() {
         return wants(0, 0x80, 0xbf);
     }
-    if b < 0xc2 {
-        return wants(1, 1, 0);
+    match b {
+        0xc2..=0xdf => wants(1, 0x80, 0xbf),
+        0xe0 => wants(2, 0xa0, 0xbf),
+        0xe1..=0xec => wants(2, 0x80, 0xbf),
+        0xed => wants(2, 0x80, 0x9f),
+        0xee..=0xef => wants(2, 0x80, 0xbf),
+        0xf0 => wants(3, 0x90, 0xbf),
+        0xf1..=0xf3 => wants(3, 0x80, 0xbf),
+        0xf4 => wants(3, 0x80, 0x8f),
+        _ => None,
     }
-    if b < 0xe0 {
-        return wants(1, 0x80, 0xbf);
-    }
-    if b < 0xe1 {
-        return wants(2, 0xa0, 0xbf);
-    }
-    if b < 0xed {
-        return wants(2, 0x80, 0xbf);
-    }
-    if b < 0xee {
-        return wants(2, 0x80, 0x9f);
-    }
-    if b < 0xf0 {
-        return wants(2, 0x80, 0xbf);
-    }
-    if b < 0xf1 {
-        return wants(3, 0x90, 0xbf);
-    }
-    if b < 0xf4 {
-        return wants(3, 0x80, 0xbf);
-    }
-    if b < 0xf5 {
-        return wants(3, 0x80, 0x8f);
-    }
-    wants(1, 1, 0)
 }
 
-// What is wanted after one byte more.
-fn step(w: Want, b: u8) -> Want
+// What is wanted after one byte more; nothing after a byte that was not.
+fn step(w: Want, b: u8) -> Option<Want>
     ensures { result ≡ step_of w b }
 {
     if w.left == 0 {
         return lead(b);
     }
-    if b < w.lo {
-        return wants(1, 1, 0);
-    }
-    if w.hi < b {
-        return wants(1, 1, 0);
+    if b < w.lo || w.hi < b {
+        return None;
     }
     wants(w.left - 1, 0x80, 0xbf)
 }
@@ -81,10 +62,11 @@ pub fn is_utf8(s: &[u8]) -> bool
         lo: 0x80,
         hi: 0xbf,
     };
-    let mut i: usize = 0;
-    while i < s.len() {
-        w = step(w, s[i]);
-        i += 1;
+    for b in s {
+        match step(w, *b) {
+            Some(next) => w = next,
+            None => return false,
+        }
     }
     w.left == 0
 }
@@ -93,8 +75,5 @@ pub fn is_utf8(s: &[u8]) -> bool
 pub fn is_text(s: &[u8]) -> bool
     ensures { (result ≡ true) ↔ Text s.now }
 {
-    if s.len() == 0 {
-        return false;
-    }
-    is_utf8(s)
+    !s.is_empty() && is_utf8(s)
 }

@@ -2,79 +2,63 @@
 // tools/vectors/make.py writes the files; the head of each says what a row holds.
 #![tactic(auto)]
 
-ghost use Rattle.std.specs.Prelude.{◌≤◌, length};
-
 mod rows;
 mod runs;
 
-use std::fs::File;
-use std::io::{Read, Result};
+use std::alloc::Global;
+use std::fs;
+use std::io::Result;
 
-// How many bytes of a file are read.
-const MOST: u64 = 65536;
-
-// How many rows were seen, and how many agreed.
-#[derive(Clone, Copy)]
-pub struct Count {
-    pub all: u64,
-    pub agreed: u64,
-}
-
-// The place of the first such byte from a place on; the end, if there is none.
-fn find(s: &[u8], from: usize, b: u8) -> usize
-    requires { from ≤ length s.now }
-    ensures { (from ≤ result) × (result ≤ length s.now) }
+// Whether what a function puts for a row is what the row expects.
+fn agrees<F: Fn(&[u8], &mut Vec<u8>) -> Result<()>>(
+    alloc: Global,
+    input: &str,
+    expected: &str,
+    run: &F,
+) -> Result<bool>
+    requires { F.IsAlwaysCallable run.now }
 {
-    for i in from..s.len() {
-        if s[i] == b {
-            return i;
-        }
-    }
-    s.len()
+    let Some(input) = rows::bytes(alloc, input) else {
+        return Ok(false);
+    };
+    let mut got = Vec::new(alloc);
+    run(&input, &mut got)?;
+    Ok(rows::bytes(alloc, expected) == Some(got))
 }
 
-// Replays each line of `text` that is a row.
-fn replay(letter: u8, text: &[u8]) -> Count {
-    let mut all = 0;
-    let mut agreed = 0;
-    let mut i = 0;
-    while i < text.len() {
-        match runs::read_line(letter, text, i) {
-            runs::Line::Agrees => {
-                all = std::num::wrapping_add_u64(all, 1);
-                agreed = std::num::wrapping_add_u64(agreed, 1);
-            }
-            runs::Line::Differs => {
-                all = std::num::wrapping_add_u64(all, 1);
-            }
-            runs::Line::Comment => {}
-        }
-        i = find(text, i, b'\n') + 1;
-    }
-    Count { all, agreed }
-}
-
-// Replays a file of data/ and prints its line.
-fn file(rt: &HostRuntime, letter: u8, path: &str) -> Result<()> {
-    let opened = match File::open(rt, path) {
-        Ok(f) => f,
+// Replays a file of data/ on a function, and prints its line.
+fn file<F: Fn(&[u8], &mut Vec<u8>) -> Result<()>>(
+    rt: &HostRuntime,
+    path: &str,
+    run: &F,
+) -> Result<()>
+    requires { F.IsAlwaysCallable run.now }
+{
+    let text = match fs::read_to_string(rt, path) {
+        Ok(text) => text,
         Err(why) => return eprintln!(rt; "{path}: {why}"),
     };
-    let mut text = Vec::new(rt.alloc());
-    opened.take(MOST).read_to_end(&mut text)?;
-    let count = replay(letter, &text);
-    let agreed = count.agreed;
-    let all = count.all;
+    let mut all = 0u64;
+    let mut agreed = 0u64;
+    for line in text.lines() {
+        let Some((input, expected)) = rows::sides(line) else {
+            continue;
+        };
+        all = all.saturating_add(1);
+        if agrees(rt.alloc(), input, expected, run)? {
+            agreed = agreed.saturating_add(1);
+        }
+    }
     println!(rt; "{path}: {agreed} of {all} rows agree")
 }
 
 fn main(rt: HostRuntime) -> Result<()> {
-    file(&rt, runs::CRC, "crc")?;
-    file(&rt, runs::ESCAPED_LENGTH, "escaped_length")?;
-    file(&rt, runs::ESCAPE, "escape")?;
-    file(&rt, runs::UNESCAPED_BYTE, "unescaped_byte")?;
-    file(&rt, runs::GATEWAY_ID, "gateway_id")?;
-    file(&rt, runs::ADDRESS, "address")?;
-    file(&rt, runs::NUMBER, "number")?;
-    file(&rt, runs::ENCODE, "encode")
+    file(&rt, "crc", &runs::crc)?;
+    file(&rt, "escaped_length", &runs::escaped_length)?;
+    file(&rt, "escape", &runs::escape)?;
+    file(&rt, "unescaped_byte", &runs::unescaped_byte)?;
+    file(&rt, "gateway_id", &runs::gateway_id)?;
+    file(&rt, "address", &runs::address)?;
+    file(&rt, "number", &runs::number)?;
+    file(&rt, "encode", &runs::encode)
 }

@@ -1,355 +1,124 @@
-// What a row asks: the function of its file is run on the row's input, and its answer and bytes are laid beside the row's.
-ghost use Rattle.std.specs.Prelude.{◌≡◌, ◌+◌, ◌<◌, ◌≤◌, length};
+// What a row of each file asks: a function on the row's input, whose answer, and a lent buffer behind it, are put at the end of `got`. Of an
+// input that is too short for what is asked nothing is put.
+use address::{Address, GatewayID};
+use escaping::EscapeError;
+use link::{EncodeError, Type};
+use std::io::Result as IoResult;
 
-use address::{Address, GatewayID, Made, Numbered, Spelled};
-use escaping::{Escaped, Measured, Unescaped};
-use link::{Encoded, Type};
-
-pub const CRC: u8 = 0;
-
-pub const ESCAPED_LENGTH: u8 = 1;
-
-pub const ESCAPE: u8 = 2;
-
-pub const UNESCAPED_BYTE: u8 = 3;
-
-pub const GATEWAY_ID: u8 = 4;
-
-pub const ADDRESS: u8 = 5;
-
-pub const NUMBER: u8 = 6;
-
-pub const ENCODE: u8 = 7;
-
-// What a line of a file is.
-#[derive(Clone, Copy)]
-pub enum Line {
-    Agrees,
-    Differs,
-    Comment,
+// An answer as a row has it: 00 and a value, or a refusal's number of 01 and zeros.
+fn put<const N: usize>(got: &mut Vec<u8>, answer: Result<[u8; N], u8>) -> IoResult<()> {
+    let (number, value) = match answer {
+        Ok(value) => (0, value),
+        Err(number) => (number, [0; N]),
+    };
+    got.push(number)?;
+    got.extend_from_slice(&value)?;
+    Ok(())
 }
 
-// Room for the longest field, all of it one byte.
-fn room(b: u8) -> [u8; 70000]
-    ensures { 70000 ≡ length result }
-{
-    [b; 70000]
+// A length in four bytes.
+fn four(length: usize) -> [u8; 4] {
+    u32::try_from(length).unwrap_or(u32::MAX).to_be_bytes()
 }
 
-// The line of a text that starts at a place.
-pub fn read_line(letter: u8, text: &[u8], from: usize) -> Line
-    requires { from < length text.now }
-{
-    let mut input = room(0x00);
-    let a = crate::rows::field(text, from, &mut input);
-    let at = a.next;
-    let len = a.len;
-    if at < text.len() {
-        if text[at] == 0x3d {
-            return judge(letter, &input[..len], text, at + 1);
-        }
-    }
-    Line::Comment
-}
-
-// The row with a given input, whose expected bytes stand at a place of the text.
-fn judge(letter: u8, input: &[u8], text: &[u8], at: usize) -> Line
-    requires { at ≤ length text.now }
-{
-    let mut expected = room(0x00);
-    let b = crate::rows::field(text, at, &mut expected);
-    let len = b.len;
-    compare(letter, input, &expected[..len])
-}
-
-// The row with a given input and given expected bytes.
-fn compare(letter: u8, input: &[u8], expected: &[u8]) -> Line {
-    let mut got = room(0xee);
-    let n = run(letter, input, &mut got);
-    if &got[..n] == expected {
-        Line::Agrees
-    } else {
-        Line::Differs
-    }
-}
-
-// Runs the function of a file. The answer, and a lent buffer behind it, go to the start of `got`, which holds ee throughout.
-fn run(letter: u8, input: &[u8], got: &mut [u8]) -> usize
-    requires { 16 < length got.old }
-    ensures { result ≤ length got.old }
-{
-    match letter {
-        CRC => crc_run(input, got),
-        ESCAPED_LENGTH => length_run(input, got),
-        ESCAPE => escape_run(input, got),
-        UNESCAPED_BYTE => unescaped_run(input, got),
-        GATEWAY_ID => id_run(input, got),
-        ADDRESS => address_run(input, got),
-        NUMBER => number_run(input, got),
-        _ => encode_run(input, got),
-    }
-}
-
-// An answer as a row has it: a number of 01, or 0, and a value.
-#[derive(Clone, Copy)]
-pub struct Answer {
-    pub number: u8,
-    pub value: usize,
-}
-
-fn measured(r: Measured) -> Answer {
-    match r {
-        Measured::Length(value) => Answer { number: 0, value },
-        Measured::TooLong => Answer {
-            number: 10,
-            value: 0,
-        },
-    }
-}
-
-fn escaped(r: Escaped) -> Answer {
-    match r {
-        Escaped::Written(value) => Answer { number: 0, value },
-        Escaped::TooLong => Answer {
-            number: 10,
-            value: 0,
-        },
-        Escaped::NoRoom => Answer {
-            number: 11,
-            value: 0,
-        },
-    }
-}
-
-fn unescaped(r: Unescaped) -> Answer {
-    match r {
-        Unescaped::Byte(b) => Answer {
-            number: 0,
-            value: b as usize,
-        },
-        Unescaped::Invalid => Answer {
-            number: 14,
-            value: 0,
-        },
-    }
-}
-
-fn made(r: Made) -> Answer {
-    match r {
-        Made::ID(id) => Answer {
-            number: 0,
-            value: id.0 as usize,
-        },
-        Made::Invalid => Answer {
-            number: 13,
-            value: 0,
-        },
-    }
-}
-
-fn directed(r: Address) -> Answer {
-    match r {
-        Address::From(id) => Answer {
-            number: 1,
-            value: id.0 as usize,
-        },
-        Address::To(id) => Answer {
-            number: 0,
-            value: id.0 as usize,
-        },
-    }
-}
-
-fn numbered(r: Numbered) -> Answer {
-    match r {
-        Numbered::Number(n) => Answer {
-            number: 0,
-            value: n as usize,
-        },
-        Numbered::Invalid => Answer {
-            number: 13,
-            value: 0,
-        },
-    }
-}
-
-fn spelled(r: Spelled) -> Answer {
-    match r {
-        Spelled::Bytes(hi, lo) => Answer {
-            number: 0,
-            value: get16(hi, lo) as usize,
-        },
-        Spelled::Invalid => Answer {
-            number: 13,
-            value: 0,
-        },
-    }
-}
-
-fn encoded(r: Encoded) -> Answer {
-    match r {
-        Encoded::Written(value) => Answer { number: 0, value },
-        Encoded::InvalidID => Answer {
-            number: 13,
-            value: 0,
-        },
-        Encoded::TooLong => Answer {
-            number: 10,
-            value: 0,
-        },
-        Encoded::NoRoom => Answer {
-            number: 11,
-            value: 0,
-        },
-    }
-}
-
-// A byte at a place, if there is room.
-fn put(got: &mut [u8], at: usize, b: u8) {
-    if at < got.len() {
-        got[at] = b;
-    }
-}
-
-// The low 16 bits of a value at a place, the higher byte first.
-fn put16(got: &mut [u8], at: usize, value: usize)
-    requires { at < 16 }
-{
-    put(got, at, (value / 256 % 256) as u8);
-    put(got, at + 1, (value % 256) as u8);
-}
-
-// An answer with a value of two bytes, at a place.
-fn put_small(got: &mut [u8], at: usize, a: Answer)
-    requires { at < 8 }
-{
-    put(got, at, a.number);
-    put16(got, at + 1, a.value);
-}
-
-// An answer with a value of four bytes, at the start.
-fn put_large(got: &mut [u8], a: Answer) {
-    let value = a.value;
-    put(got, 0, a.number);
-    put16(got, 1, value / 65536);
-    put16(got, 3, value);
-}
-
-fn get16(hi: u8, lo: u8) -> u16 {
-    (hi as u16) * 256 + (lo as u16)
-}
-
-fn get24(a: u8, b: u8, c: u8) -> usize
-    ensures { result < 0x1000000 }
-{
-    (a as usize) * 65536 + (b as usize) * 256 + (c as usize)
-}
-
-fn crc_run(input: &[u8], got: &mut [u8]) -> usize
-    requires { 16 < length got.old }
-    ensures { result ≤ length got.old }
-{
-    put16(got, 0, crc::crc(input) as usize);
-    2
-}
-
-fn length_run(input: &[u8], got: &mut [u8]) -> usize
-    requires { 16 < length got.old }
-    ensures { result ≤ length got.old }
-{
-    put_large(got, measured(escaping::escaped_length(input)));
-    5
-}
-
-fn escape_run(input: &[u8], got: &mut [u8]) -> usize
-    requires { 16 < length got.old }
-    ensures { result ≤ length got.old }
-{
-    if input.len() < 4 {
-        return 0;
-    }
-    let e = 5 + get24(input[1], input[2], input[3]);
-    if got.len() < e {
-        return 0;
-    }
-    let r = escaping::escape(&input[4..], &mut got[5..e]);
-    put_large(got, escaped(r));
-    e
-}
-
-fn unescaped_run(input: &[u8], got: &mut [u8]) -> usize
-    requires { 16 < length got.old }
-    ensures { result ≤ length got.old }
-{
-    if input.len() < 1 {
-        return 0;
-    }
-    put_small(got, 0, unescaped(escaping::unescaped_byte(input[0])));
-    3
-}
-
-fn id_run(input: &[u8], got: &mut [u8]) -> usize
-    requires { 16 < length got.old }
-    ensures { result ≤ length got.old }
-{
-    if input.len() < 2 {
-        return 0;
-    }
-    put_small(got, 0, made(GatewayID::new(get16(input[0], input[1]))));
-    3
-}
-
-fn address_run(input: &[u8], got: &mut [u8]) -> usize
-    requires { 16 < length got.old }
-    ensures { result ≤ length got.old }
-{
-    if input.len() < 2 {
-        return 0;
-    }
-    put_small(
-        got,
-        0,
-        directed(Address::from_be_bytes([input[0], input[1]])),
-    );
-    3
-}
-
-// The address of a direction, 0 for To, and two bytes.
-fn address_of(direction: u8, hi: u8, lo: u8) -> Address {
+// The address of a direction, 00 for To, and an ID.
+fn address_of(direction: u8, id: [u8; 2]) -> Address {
+    let id = GatewayID(u16::from_be_bytes(id));
     if direction == 0 {
-        Address::To(GatewayID(get16(hi, lo)))
+        Address::To(id)
     } else {
-        Address::From(GatewayID(get16(hi, lo)))
+        Address::From(id)
     }
 }
 
-fn number_run(input: &[u8], got: &mut [u8]) -> usize
-    requires { 16 < length got.old }
-    ensures { result ≤ length got.old }
-{
-    if input.len() < 3 {
-        return 0;
-    }
-    let a = address_of(input[0], input[1], input[2]);
-    put_small(got, 0, numbered(a.to_u16()));
-    put_small(got, 3, spelled(a.to_be_bytes()));
-    6
+pub fn crc(input: &[u8], got: &mut Vec<u8>) -> IoResult<()> {
+    got.extend_from_slice(&crc::crc(input).to_be_bytes())?;
+    Ok(())
 }
 
-fn encode_run(input: &[u8], got: &mut [u8]) -> usize
-    requires { 16 < length got.old }
-    ensures { result ≤ length got.old }
-{
-    if input.len() < 9 {
-        return 0;
-    }
-    let a = address_of(input[0], input[1], input[2]);
-    let t = Type(get16(input[3], input[4]));
-    let e = 5 + get24(input[6], input[7], input[8]);
-    if got.len() < e {
-        return 0;
-    }
-    let r = link::encode(a, t, &input[9..], &mut got[5..e]);
-    put_large(got, encoded(r));
-    e
+pub fn escaped_length(input: &[u8], got: &mut Vec<u8>) -> IoResult<()> {
+    let answer = escaping::escaped_length(input);
+    put(got, answer.map(four).map_err(|_| 10))
+}
+
+pub fn escape(input: &[u8], got: &mut Vec<u8>) -> IoResult<()> {
+    let Some((room, bytes)) = input.split_first_chunk() else {
+        return Ok(());
+    };
+    let mut out = vec![in *got.allocator(); 0xee; u32::from_be_bytes(*room) as usize]?;
+    let answer = escaping::escape(bytes, &mut out);
+    let refusal = |e| match e {
+        EscapeError::TooLong => 10,
+        EscapeError::NoRoom => 11,
+    };
+    put(got, answer.map(four).map_err(refusal))?;
+    got.extend_from_slice(&out)?;
+    Ok(())
+}
+
+pub fn unescaped_byte(input: &[u8], got: &mut Vec<u8>) -> IoResult<()> {
+    let Some(code) = input.first() else {
+        return Ok(());
+    };
+    let answer = escaping::unescaped_byte(*code);
+    put(got, answer.map(|b| [0, b]).map_err(|_| 14))
+}
+
+pub fn gateway_id(input: &[u8], got: &mut Vec<u8>) -> IoResult<()> {
+    let Some(number) = input.first_chunk() else {
+        return Ok(());
+    };
+    let answer = GatewayID::try_from(u16::from_be_bytes(*number));
+    put(got, answer.map(|id| id.0.to_be_bytes()).map_err(|_| 13))
+}
+
+// The direction, 01 for From, stands in the place of a refusal's number.
+pub fn address(input: &[u8], got: &mut Vec<u8>) -> IoResult<()> {
+    let Some(bytes) = input.first_chunk() else {
+        return Ok(());
+    };
+    let address = Address::from_be_bytes(*bytes);
+    got.push(u8::from(address.is_from()))?;
+    got.extend_from_slice(&address.gateway().0.to_be_bytes())?;
+    Ok(())
+}
+
+pub fn number(input: &[u8], got: &mut Vec<u8>) -> IoResult<()> {
+    let Some([direction, high, low]) = input.first_chunk::<3>() else {
+        return Ok(());
+    };
+    let address = address_of(*direction, [*high, *low]);
+    let answer = u16::try_from(address);
+    put(got, answer.map(|n| n.to_be_bytes()).map_err(|_| 13))?;
+    put(got, address.to_be_bytes().map_err(|_| 13))
+}
+
+pub fn encode(input: &[u8], got: &mut Vec<u8>) -> IoResult<()> {
+    let Some((head, payload)) = input.split_first_chunk::<9>() else {
+        return Ok(());
+    };
+    let [
+        direction,
+        id0,
+        id1,
+        type0,
+        type1,
+        room0,
+        room1,
+        room2,
+        room3,
+    ] = *head;
+    let address = address_of(direction, [id0, id1]);
+    let frame_type = Type(u16::from_be_bytes([type0, type1]));
+    let room = u32::from_be_bytes([room0, room1, room2, room3]) as usize;
+    let mut out = vec![in *got.allocator(); 0xee; room]?;
+    let answer = link::encode(address, frame_type, payload, &mut out);
+    let refusal = |e| match e {
+        EncodeError::InvalidGatewayID => 13,
+        EncodeError::TooLong => 10,
+        EncodeError::NoRoom => 11,
+    };
+    put(got, answer.map(four).map_err(refusal))?;
+    got.extend_from_slice(&out)?;
+    Ok(())
 }

@@ -1,8 +1,7 @@
 -- `byte_runs::busy` marks each byte that is neither 00 nor ff: in these two each bit is as the one below it, and of where it is not the highest bit of a sum tells whether any is. Assumes nothing.
 use mathlib.Core.Path.{refl}
 use Prim.Native.Nat.{ℕ, ◌+◌}
-use native.Mathlib.Omega.{arith}
-use lib.Bits.{bit_and, bit_or, bit_xor, and_le_r}
+use lib.Bits.{bit_and, bit_or, bit_xor}
 use Rattle.byte_runs.specs.Runs.{is_of}
 use Rattle.byte_runs.specs.Marks.{mark}
 use Rattle.byte_runs.specs.declared.Sort.TheVariants as sort
@@ -18,12 +17,6 @@ rest b = bit_and (bit_xor (next b) b) 0xfe
 
 abbrev told : ℕ → ℕ
 told b = bit_or (bit_and (rest b) 0x7f + 0x7f) (rest b)
-
-pub overflow_add-t : goal.overflow_add-t
-overflow_add-t c = omega (arith, and_le_r c.args.w 0x7f7f7f7f7f7f7f7f)
-
-pub overflow_add-result : goal.overflow_add-result
-overflow_add-result c = omega (arith, and_le_r (bit_and (bit_xor (bit_and c.args.w 0x7f7f7f7f7f7f7f7f + bit_and c.args.w 0x7f7f7f7f7f7f7f7f) c.args.w) 0xfefefefefefefefe) 0x7f7f7f7f7f7f7f7f)
 
 pub returns : goal.returns
 unfolding is_of

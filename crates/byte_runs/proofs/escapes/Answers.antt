@@ -1,8 +1,7 @@
 -- `byte_runs::escapes` marks each byte that is 7e: of the byte without 7e's bits the highest bit of a sum tells whether any is left. Assumes nothing.
 use mathlib.Core.Path.{refl}
 use Prim.Native.Nat.{ℕ, ◌+◌}
-use native.Mathlib.Omega.{arith}
-use lib.Bits.{bit_and, bit_or, bit_xor, and_le_r}
+use lib.Bits.{bit_and, bit_or, bit_xor}
 use Rattle.byte_runs.specs.Runs.{is_of}
 use Rattle.byte_runs.specs.Marks.{mark}
 use Rattle.byte_runs.specs.declared.Sort.TheVariants as sort
@@ -18,9 +17,6 @@ carried b = bit_and (apart b) 0x7f + 0x7f
 
 abbrev told : ℕ → ℕ
 told b = bit_or (bit_or (carried b) (apart b)) 0x7f
-
-pub overflow_add-t : goal.overflow_add-t
-overflow_add-t c = omega (arith, and_le_r (bit_xor c.args.w 0x7e7e7e7e7e7e7e7e) 0x7f7f7f7f7f7f7f7f)
 
 pub returns : goal.returns
 unfolding is_of

@@ -1,17 +1,12 @@
 -- `byte_runs::one_noise` is one for a byte other than 00 and ff on a line that is not noisy. Assumes nothing.
-use mathlib.Core.Path.{sym, ap, ap₂, ◌∙◌}
-use mathlib.Core.Bool.{Bool, cond}
+use mathlib.Core.Logic.{inl, inr}
 use Rattle.byte_runs.specs.Noises.{noises_of}
 use Rattle.byte_runs.proofs.one_noise.Goals as goal
 
-pub returns-then-is_idle : goal.returns-then-is_idle
-unfolding noises_of
-returns-then-is_idle c = ap (λ (t : Bool). cond t 0 (cond c.args.noisy 0 1)) (sym c.if-is_idle.true ∙ c.is_idle.ensures)
-
 pub returns-then-noisy : goal.returns-then-noisy
 unfolding noises_of
-returns-then-noisy c = ap₂ (λ (t u : Bool). cond t 0 (cond u 0 1)) (sym c.if-is_idle.false ∙ c.is_idle.ensures) (sym c.if-noisy.true)
+returns-then-noisy c = elim c.if-noisy.either [ inl e ↦ rw (← c.is_idle.ensures, e) | inr e ↦ rw (← c.is_idle.ensures, e.0, e.1) ]
 
-pub returns : goal.returns
+pub returns-else-noisy : goal.returns-else-noisy
 unfolding noises_of
-returns c = ap₂ (λ (t u : Bool). cond t 0 (cond u 0 1)) (sym c.if-is_idle.false ∙ c.is_idle.ensures) (sym c.if-noisy.false)
+returns-else-noisy c = rw (← c.is_idle.ensures, c.if-noisy.false.0, c.if-noisy.false.1)

@@ -1,5 +1,5 @@
--- `escaping::code_of` gives the code of each of the seven, and 7 for what is none of them. Assumes nothing.
-use mathlib.Core.Path.{sym}
+-- `escaping::code_of` gives the code of each of the seven, and none for any other. Assumes nothing.
+use mathlib.Core.Path.{refl}
 use Rattle.escaping.specs.Escapes.{code_of}
 use Rattle.escaping.proofs.Laws.{code_of-other}
 use Rattle.escaping.proofs.code_of.Goals as goal
@@ -35,5 +35,4 @@ returns-in-165 c = rw c.in-165.is
 pub returns-in_default : goal.returns-in_default
 returns-in_default c =
     let n = c.in_default.in_default-own.rest in
-    sym
-    (code_of-other c.args.b n.0.0.0.0.0.0.1 n.0.0.0.0.0.1 n.0.0.0.0.1 n.0.0.0.1 n.0.0.1 n.0.1 n.1)
+    rw (code_of-other c.args.b n.0.0.0.0.0.0.1 n.0.0.0.0.0.1 n.0.0.0.0.1 n.0.0.0.1 n.0.0.1 n.0.1 n.1) refl

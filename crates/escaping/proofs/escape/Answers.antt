@@ -12,9 +12,6 @@ pub returns-then-input-gt-INPUT_LIMIT : goal.returns-then-input-gt-INPUT_LIMIT
 unfolding escape_handed escape_bytes
 returns-then-input-gt-INPUT_LIMIT c = record { answer = rw (lt-ltb _ _ c.if-input-gt-INPUT_LIMIT.true); bytes = rw (lt-ltb _ _ c.if-input-gt-INPUT_LIMIT.true) }
 
-pub write_escaped-n-requires : goal.write_escaped-n-requires
-write_escaped-n-requires c = leb-true _ _ (sym c.has_room.ensures ∙ c.if-has_room.true)
-
 pub returns-then-has_room : goal.returns-then-has_room
 returns-then-has_room c = let a = c.args in
     let xs = a.input.now in

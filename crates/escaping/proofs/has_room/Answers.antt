@@ -11,6 +11,3 @@ pub returns-then-input-room : goal.returns-then-input-room
 returns-then-input-room c = let a = c.args in
     let xs = a.input.now in
     sym (le-leb (length (escaped xs)) a.room (omega (arith, length-escaped-le xs)))
-
-pub returns : goal.returns
-returns c = rw c.length_of.ensures

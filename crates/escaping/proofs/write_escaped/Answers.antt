@@ -48,14 +48,6 @@ overflow_add-i-in-loop-i c = let a = c.args in
     let g = laid-run a.input.now a.out.now c.requires l.out l.i l.k l.invariant next run.result run.ensures.count run.ensures.bytes in
     omega (arith, g.inside)
 
-pub loop-i-smaller : goal.loop-i-smaller
-loop-i-smaller c = let a = c.args in
-    let l = c.loop-i in
-    let run = c.copy_run-n in
-    let next = run.new.d in
-    let g = laid-run a.input.now a.out.now c.requires l.out l.i l.k l.invariant next run.result run.ensures.count run.ensures.bytes in
-    omega (arith, g.inside)
-
 pub loop-i-preserved : goal.loop-i-preserved
 loop-i-preserved c = let a = c.args in
     let l = c.loop-i in
@@ -63,11 +55,6 @@ loop-i-preserved c = let a = c.args in
     let next = run.new.d in
     let g = laid-run a.input.now a.out.now c.requires l.out l.i l.k l.invariant next run.result run.ensures.count run.ensures.bytes in
     laid-byte a.input.now a.out.now c.requires next (l.i + run.result) (l.k + run.result) g (omega (arith, g.inside)) _ _ c.write_byte-k.ensures.0 c.write_byte-k.ensures.1
-
-pub returns-after-loop-i : goal.returns-after-loop-i
-returns-after-loop-i c = let a = c.args in
-    let l = c.loop-i in
-    laid-all a.input.now a.out.now c.requires l.out l.i l.k c.loop-i-test.false l.invariant
 
 pub returns-then-i-input : goal.returns-then-i-input
 returns-then-i-input c = let a = c.args in

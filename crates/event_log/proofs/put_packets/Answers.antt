@@ -2,90 +2,67 @@
 -- Assumes nothing.
 use Rattle.event_log.proofs.Areas.{space-packet, bytes-finished, bytes-short}
 use Rattle.event_log.proofs.Writes.{length_back, put-more}
-use mathlib.Core.Path.{refl, sym, ◌∙◌}
+use Rattle.std.specs.Prelude.{Some}
+use mathlib.Core.Path.{sym, ap, ◌∙◌}
 use native.Mathlib.Omega.{arith}
 use lib.ListN.{take-append-drop}
 use Rattle.laws.specs.Bytes.{Bytes}
 use Rattle.network.proofs.Walk.{found_at-ahead}
 use Rattle.event_log.proofs.put_packets.Goals as goal
 
-pub loop-end-init : goal.loop-end-init
-loop-end-init c = (omega arith, refl, omega arith, refl)
+pub returns : goal.returns
+returns c = let a = c.args.area.now in
+    let at = c.loop-found.at in
+    let f = sym c.packet_at.ensures ∙ c.in_default.is in
+    sym (take-append-drop c.loop-found.to c.loop-found.out) ∙ rw (bytes-finished a at c.args.gateway.0 f) at c.loop-found.invariant.3
 
-pub shape_of-out-in-Finished : goal.shape_of-out-in-Finished
-shape_of-out-in-Finished c = c.loop-end.invariant.1
+pub returns-in_default-found : goal.returns-in_default-found
+returns-in_default-found c = let a = c.args.area.now in
+    let at = c.loop-found.at in
+    let f = sym c.packet_at.ensures ∙ c.in-Some.is ∙ ap Some c.in_default-found.is in
+    sym (take-append-drop c.loop-found.to c.loop-found.out) ∙ rw (bytes-short a at c.args.gateway.0 f) at c.loop-found.invariant.3
 
-pub returns-in-Finished : goal.returns-in-Finished
-returns-in-Finished c = let a = c.args.area.now in
-    let at = c.loop-end.at in
-    let f = sym c.packet_at-f.ensures ∙ c.in-Finished.is in
-    sym (take-append-drop c.loop-end.to c.loop-end.out) ∙ rw (bytes-finished a at c.args.gateway.0 f) at c.loop-end.invariant.3
-
-pub shape_of-out-in-TooShort : goal.shape_of-out-in-TooShort
-shape_of-out-in-TooShort c = c.loop-end.invariant.1
-
-pub returns-in-TooShort : goal.returns-in-TooShort
-returns-in-TooShort c = let a = c.args.area.now in
-    let at = c.loop-end.at in
-    let f = sym c.packet_at-f.ensures ∙ c.in-TooShort.is in
-    sym (take-append-drop c.loop-end.to c.loop-end.out) ∙ rw (bytes-short a at c.args.gateway.0 f) at c.loop-end.invariant.3
-
-pub slice_bounds-packet-count : goal.slice_bounds-packet-count
-slice_bounds-packet-count c = omega arith
-
-pub slice_bounds-packet-start : goal.slice_bounds-packet-start
-slice_bounds-packet-start c = omega arith
-
-pub slice_bounds-packet-end : goal.slice_bounds-packet-end
-slice_bounds-packet-end c = omega arith
-
-pub slice_bounds-packet-count-in-Packet : goal.slice_bounds-packet-count-in-Packet
-slice_bounds-packet-count-in-Packet c = let a = c.args.area.now in
-    let at = c.loop-end.at in
-    let f = sym c.packet_at-f.ensures ∙ c.in-Packet.is in
+pub slice_bounds-packet-count-in-Some : goal.slice_bounds-packet-count-in-Some
+slice_bounds-packet-count-in-Some c = let a = c.args.area.now in
+    let at = c.loop-found.at in
+    let f = sym c.packet_at.ensures ∙ c.in-Some.is ∙ ap Some c.in-Ok.is in
     omega (arith, found_at-ahead a at _ _ f)
 
-pub slice_bounds-packet-start-in-Packet : goal.slice_bounds-packet-start-in-Packet
-slice_bounds-packet-start-in-Packet c = let a = c.args.area.now in
-    let at = c.loop-end.at in
-    let f = sym c.packet_at-f.ensures ∙ c.in-Packet.is in
+pub slice_bounds-packet-start-in-Some : goal.slice_bounds-packet-start-in-Some
+slice_bounds-packet-start-in-Some c = let a = c.args.area.now in
+    let at = c.loop-found.at in
+    let f = sym c.packet_at.ensures ∙ c.in-Some.is ∙ ap Some c.in-Ok.is in
     omega (arith, found_at-ahead a at _ _ f)
 
-pub slice_bounds-packet-end-in-Packet : goal.slice_bounds-packet-end-in-Packet
-slice_bounds-packet-end-in-Packet c = let a = c.args.area.now in
-    let at = c.loop-end.at in
-    let f = sym c.packet_at-f.ensures ∙ c.in-Packet.is in
+pub slice_bounds-packet-end-in-Some : goal.slice_bounds-packet-end-in-Some
+slice_bounds-packet-end-in-Some c = let a = c.args.area.now in
+    let at = c.loop-found.at in
+    let f = sym c.packet_at.ensures ∙ c.in-Some.is ∙ ap Some c.in-Ok.is in
     omega (arith, found_at-ahead a at _ _ f)
-
-pub overflow_add-to : goal.overflow_add-to
-overflow_add-to c = let a = c.args.area.now in
-    let at = c.loop-end.at in
-    let f = sym c.packet_at-f.ensures ∙ c.in-Packet.is in
-    omega (arith, space-packet a at _ _ f)
 
 pub overflow_sub-to : goal.overflow_sub-to
 overflow_sub-to c = let a = c.args.area.now in
-    let at = c.loop-end.at in
-    let f = sym c.packet_at-f.ensures ∙ c.in-Packet.is in
+    let at = c.loop-found.at in
+    let f = sym c.packet_at.ensures ∙ c.in-Some.is ∙ ap Some c.in-Ok.is in
     omega (arith, found_at-ahead a at _ _ f)
 
-pub overflow_add-to-in-Packet : goal.overflow_add-to-in-Packet
-overflow_add-to-in-Packet c = let a = c.args.area.now in
-    let at = c.loop-end.at in
-    let f = sym c.packet_at-f.ensures ∙ c.in-Packet.is in
+pub overflow_add-to-in-Some : goal.overflow_add-to-in-Some
+overflow_add-to-in-Some c = let a = c.args.area.now in
+    let at = c.loop-found.at in
+    let f = sym c.packet_at.ensures ∙ c.in-Some.is ∙ ap Some c.in-Ok.is in
     omega (arith, space-packet a at _ _ f)
 
-pub loop-end-smaller : goal.loop-end-smaller
-loop-end-smaller c = let a = c.args.area.now in
-    let at = c.loop-end.at in
-    let f = sym c.packet_at-f.ensures ∙ c.in-Packet.is in
+pub loop-found-smaller : goal.loop-found-smaller
+loop-found-smaller c = let a = c.args.area.now in
+    let at = c.loop-found.at in
+    let f = sym c.packet_at.ensures ∙ c.in-Some.is ∙ ap Some c.in-Ok.is in
     omega (arith, found_at-ahead a at _ _ f)
 
-pub loop-end-preserved : goal.loop-end-preserved
-loop-end-preserved c = let a = c.args.area.now in
-    let at = c.loop-end.at in
-    let f = sym c.packet_at-f.ensures ∙ c.in-Packet.is in
-    let l = c.loop-end in
+pub loop-found-preserved : goal.loop-found-preserved
+loop-found-preserved c = let a = c.args.area.now in
+    let at = c.loop-found.at in
+    let f = sym c.packet_at.ensures ∙ c.in-Some.is ∙ ap Some c.in-Ok.is in
+    let l = c.loop-found in
     let g = c.args.gateway.0 in
     let b : Bytes a = λ i. (c.type_inv.area i).fits in
     let h = found_at-ahead a at _ _ f in

@@ -8,8 +8,8 @@ use lib.ListN.{length, take, drop}
 use Rattle.laws.specs.Bytes.{laid_over}
 use Rattle.event_log.proofs.put_packets.Given as goal
 
-abbrev pub invariant-loop-end : goal.invariant-loop-end
-invariant-loop-end l = (l.at ≤ length l.area) × (length l.out ≡ length l.initial.out) × (l.to + area_space (drop l.at l.area) ≤ length l.out) × (take l.to l.out ++ laid_over (area_bytes l.gateway.0 (drop l.at l.area)) (drop l.to l.out) ≡ laid_over (area_bytes l.gateway.0 l.area) l.initial.out)
+abbrev pub invariant-loop-found : goal.invariant-loop-found
+invariant-loop-found l = (l.at ≤ length l.area) × (length l.out ≡ length l.initial.out) × (l.to + area_space (drop l.at l.area) ≤ length l.out) × (take l.to l.out ++ laid_over (area_bytes l.gateway.0 (drop l.at l.area)) (drop l.to l.out) ≡ laid_over (area_bytes l.gateway.0 l.area) l.initial.out)
 
-abbrev pub decreases-loop-end : goal.decreases-loop-end
-decreases-loop-end l = length l.area - l.at
+abbrev pub decreases-loop-found : goal.decreases-loop-found
+decreases-loop-found l = length l.area - l.at

@@ -6,8 +6,8 @@ use Prim.Native.Nat.{◌+◌, ◌-◌, ◌≤◌}
 use lib.ListN.{length, drop}
 use Rattle.event_log.proofs.room_after.Given as goal
 
-abbrev pub invariant-loop-end : goal.invariant-loop-end
-invariant-loop-end l = (l.at ≤ length l.area) × (l.room + area_space (drop l.at l.area) ≡ l.left + area_space l.area)
+abbrev pub invariant-loop-found : goal.invariant-loop-found
+invariant-loop-found l = (l.at ≤ length l.area) × (l.room + area_space (drop l.at l.area) ≡ l.left + area_space l.area)
 
-abbrev pub decreases-loop-end : goal.decreases-loop-end
-decreases-loop-end l = length l.area - l.at
+abbrev pub decreases-loop-found : goal.decreases-loop-found
+decreases-loop-found l = length l.area - l.at

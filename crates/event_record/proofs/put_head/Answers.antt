@@ -9,4 +9,4 @@ pub returns : goal.returns
 unfolding extra
 returns c = let a = c.args in
     head-laid _ a.out.now _ (omega arith) c.copy_in.ensures
-    ∙ rw (c.high.ensures, c.low.ensures, c.high-2.ensures, c.low-2.ensures)
+    ∙ rw (c.high.ensures, c.low.ensures, c.high-2.ensures, c.low-2.ensures, c.from.ensures)

@@ -1,15 +1,10 @@
 -- `link::assemble` copies head, payload and check in, each behind the other, and the check is of what stands before it. Assumes nothing.
-use mathlib.Core.Path.{sym}
 use native.Mathlib.Omega.{arith}
-use lib.Seq.{length-take-le}
 use Rattle.address.proofs.Laws.{number_of-address_of}
 use Rattle.crc.specs.Crc.{crc_of}
 use Rattle.link.specs.Wire.{frame_at}
 use Rattle.link.proofs.Writes.{assembled}
 use Rattle.link.proofs.assemble.Goals as goal
-
-pub slice_bounds-crc-end-2 : goal.slice_bounds-crc-end-2
-slice_bounds-crc-end-2 c = sym (length-take-le _ _ (omega arith))
 
 pub returns : goal.returns
 returns c = let a = c.args in

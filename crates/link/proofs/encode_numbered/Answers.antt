@@ -1,8 +1,5 @@
 -- `link::encode_numbered` assembles the body in an array of its own, and writes the part that is filled. Assumes nothing.
-use mathlib.Core.Path.{sym}
-use native.Mathlib.Omega.{arith}
-use lib.ListN.{replicate, length-take}
-use lib.Seq.{length-take-le}
+use lib.ListN.{replicate}
 use borrow.Author.Tests.{lt-ltb, le-ltb}
 use Rattle.address.proofs.Laws.{number_of-address_of}
 use Rattle.crc.specs.Crc.{crc_of}
@@ -14,12 +11,6 @@ use Rattle.link.proofs.encode_numbered.Goals as goal
 pub returns-then-n-gt-PAYLOAD_LIMIT : goal.returns-then-n-gt-PAYLOAD_LIMIT
 unfolding numbered_handed numbered_bytes
 returns-then-n-gt-PAYLOAD_LIMIT c = let e = lt-ltb _ _ c.if-n-gt-PAYLOAD_LIMIT.true in record { answer = rw e; bytes = rw e }
-
-pub slice_bounds-write_body-end : goal.slice_bounds-write_body-end
-slice_bounds-write_body-end c = sym (length-take-le _ _ (omega arith))
-
-pub write_body-requires : goal.write_body-requires
-write_body-requires c = simp length-take (omega arith)
 
 pub returns : goal.returns
 unfolding numbered_handed numbered_bytes encoded_of

@@ -3,14 +3,10 @@ use Rattle.plain_frames.specs.Plain.{version_in}
 use Rattle.utf8.proofs.Laws.{is-text-told}
 use Rattle.plain_frames.proofs.version_response.Goals as goal
 
-pub returns-then-not-from : goal.returns-then-not-from
-unfolding version_in
-returns-then-not-from c = rw (c.raise.ensures, c.if-not-from.true)
-
 pub returns-then-is_text : goal.returns-then-is_text
 unfolding version_in
-returns-then-is_text c = rw (c.raise-then-is_text.ensures, c.if-not-from.false, ← is-text-told c.args.payload.now c.is_text.result c.is_text.ensures, c.if-is_text.true)
+returns-then-is_text c = rw (c.raise-then-is_text.ensures, ← c.is_from.ensures, c.if-not-is_from.false, ← is-text-told c.args.payload.now c.is_text.result c.is_text.ensures, c.if-is_text.true)
 
 pub returns : goal.returns
 unfolding version_in
-returns c = rw (c.raise-2.ensures, c.if-not-from.false, ← is-text-told c.args.payload.now c.is_text.result c.is_text.ensures, c.if-is_text.false)
+returns c = rw (c.raise-2.ensures, ← c.is_from.ensures, c.if-not-is_from.false, ← is-text-told c.args.payload.now c.is_text.result c.is_text.ensures, c.if-is_text.false)

@@ -2,51 +2,47 @@
 use mathlib.Core.Path.{sym, ap, ◌∙◌}
 use Prim.Native.Nat.{ℕ, ◌-◌}
 use native.Mathlib.Omega.{arith}
-use lib.ListN.{length, get_or, drop, length-drop}
+use lib.ListN.{get_or, length, drop, length-drop}
 use lib.Seq.{take_all}
+use borrow.Author.Tests.{eqb-true, leb-true, eq-eqb, ne_eqb, le-leb}
+use Rattle.laws.proofs.Cases.{never}
 use Rattle.sound_record.specs.Record.{written, kind_at, gateway_end, sound_body}
 use Rattle.sound_record.proofs.Soundness.{sound-body, not_sound, below_none, sound_body-alike}
 use Rattle.sound_record.proofs.sound_version.Goals as goal
+use Rattle.sound_record.proofs.sound_version.Goals.{then-size_of-bytes, else-size_of-bytes, then-bytes-version, else-bytes-version}
 
-pub returns-then-n-start : goal.returns-then-n-start
-returns-then-n-start c = sym (not_sound _ _ (λ p. omega (arith, p.head, c.body_start-start.ensures)))
+pub returns-in_default : goal.returns-in_default
+returns-in_default c = sym (not_sound _ _ (λ p. omega (arith, p.head, c.in_default.ensures.lookup, c.body_start.ensures)))
 
-pub bounds-bytes-0 : goal.bounds-bytes-0
-bounds-bytes-0 c = omega (arith, c.body_start-start.ensures)
+pub returns-then-bytes-le127 : goal.returns-then-bytes-le127
+returns-then-bytes-le127 c = elim c.if-bytes-version.branch [
+  | then-bytes-version w ↦ elim c.if-size_of-bytes.branch [
+    | then-size_of-bytes u ↦
+        let a = c.args in
+        let r = a.bytes.now in
+        let s = c.body_start.result in
+        let l = c.in-Some.ensures.lookup.0 in
+        c.sound_body.ensures
+        ∙ rw (l.2, take_all (length r - s) (drop s r) (simp length-drop (omega arith)))
+        (sound_body-alike written a.version _ _
+        ∙ ap (λ (n : ℕ). sound_body a.version (get_or r kind_at 0) (drop n r)) c.body_start.ensures
+        ∙ sym
+        (sound-body a.version r (omega (arith, u.if-size_of-bytes.true, c.size_of.ensures)) (eqb-true _ _ (sym u.value-is ∙ w.if-bytes-version.true)) (omega (arith, l.0, c.body_start.ensures))
+        (omega (arith, leb-true _ 127 (sym w.value-is ∙ c.if-bytes-le127.true), c.type_inv.bytes 5)) (below_none a.version (drop gateway_end r))))
+    | else-size_of-bytes u ↦ never (sym (ne_eqb _ _ u.if-size_of-bytes.false) ∙ sym u.value-is ∙ w.if-bytes-version.true)
+  ]
+  | else-bytes-version w ↦ never (sym w.if-bytes-version.false ∙ sym w.value-is ∙ c.if-bytes-le127.true)
+]
 
-pub bounds-bytes-1 : goal.bounds-bytes-1
-bounds-bytes-1 c = omega (arith, c.body_start-start.ensures)
-
-pub overflow_add-pair : goal.overflow_add-pair
-overflow_add-pair c = omega (arith, c.pair.ensures, c.type_inv.bytes 0, c.type_inv.bytes 1)
-
-pub returns-then-pair-n : goal.returns-then-pair-n
-returns-then-pair-n c = sym (not_sound _ _ (λ p. omega (arith, c.if-pair-n.true, c.pair.ensures, p.whole)))
-
-pub bounds-bytes-2 : goal.bounds-bytes-2
-bounds-bytes-2 c = omega (arith, c.body_start-start.ensures)
-
-pub returns-then-bytes-version : goal.returns-then-bytes-version
-returns-then-bytes-version c = sym (not_sound _ _ (λ p. omega (arith, c.if-bytes-version.true, p.version)))
-
-pub bounds-bytes-4 : goal.bounds-bytes-4
-bounds-bytes-4 c = omega (arith, c.body_start-start.ensures)
-
-pub returns-then-bytes-gt127 : goal.returns-then-bytes-gt127
-returns-then-bytes-gt127 c = sym (not_sound _ _ (λ p. omega (arith, p.gateway)))
-
-pub bounds-bytes-3 : goal.bounds-bytes-3
-bounds-bytes-3 c = omega (arith, c.body_start-start.ensures)
-
-pub returns : goal.returns
-returns c = let a = c.args in
-    let r = a.bytes.now in
-    let s = c.body_start-start.result in
-    let e = c.body_start-start.ensures in
-    c.sound_body.ensures
-    ∙ rw (take_all (length r - s) (drop s r) (simp length-drop (omega arith)))
-    (sound_body-alike written a.version _ _
-    ∙ ap (λ (n : ℕ). sound_body a.version (get_or r kind_at 0) (drop n r)) e
+pub returns-else-bytes-le127 : goal.returns-else-bytes-le127
+returns-else-bytes-le127 c =
+    c.if-bytes-le127.false
     ∙ sym
-    (sound-body a.version r (omega (arith, c.if-pair-n.false, c.pair.ensures)) (omega (arith, c.if-bytes-version.false)) (omega (arith, e))
-    (omega (arith, c.if-bytes-gt127.false, c.type_inv.bytes 5)) (below_none a.version (drop gateway_end r))))
+    (not_sound _ _
+    (λ p. elim c.if-bytes-version.branch [
+      | then-bytes-version w ↦ never (sym c.if-bytes-le127.false ∙ w.value-is ∙ le-leb _ 127 (omega (arith, p.gateway)))
+      | else-bytes-version w ↦ elim c.if-size_of-bytes.branch [
+        | then-size_of-bytes u ↦ never (sym w.if-bytes-version.false ∙ u.value-is ∙ eq-eqb _ _ p.version)
+        | else-size_of-bytes u ↦ omega (arith, u.if-size_of-bytes.false, c.size_of.ensures, p.whole)
+      ]
+    ]))

@@ -1,13 +1,9 @@
--- `tables::any_over` is right: the flag and what is left of the list decide the whole. Assumes nothing.
+-- `tables::any_over` is right: the flag is what the lengths so far give. Assumes nothing.
 use mathlib.Core.Path.{◌≡◌}
-use mathlib.Core.Bool.{true, cond}
-use Prim.Native.Nat.{◌≤◌, ◌-◌}
-use lib.ListN.{length, drop}
-use Rattle.tables.specs.Keys.{any_over}
+use lib.ListN.{take}
+use lib.Dec.{ltb}
+use Rattle.std.specs.List.{list_any}
 use Rattle.tables.proofs.any_over.Given as goal
 
-abbrev pub invariant-loop-i : goal.invariant-loop-i
-invariant-loop-i l = (l.i ≤ length l.lengths) × (any_over l.lengths l.limit ≡ cond l.found true (any_over (drop l.i l.lengths) l.limit))
-
-abbrev pub decreases-loop-i : goal.decreases-loop-i
-decreases-loop-i l = length l.lengths - l.i
+abbrev pub invariant-loop-n : goal.invariant-loop-n
+invariant-loop-n l = l.found ≡ list_any (λ n. ltb l.limit n) (take l.n-index l.lengths)

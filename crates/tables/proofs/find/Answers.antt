@@ -1,22 +1,11 @@
--- `tables::find` is right: what the search finds from place i on is what it finds from the start, i places further on.
--- Assumes nothing.
-use native.Mathlib.Omega.{arith}
-use native.Mathlib.Numerals.{add-one}
-use Rattle.tables.proofs.Laws.{first-here, first_past, first-end}
-use borrow.Author.Rules.{rules}
+-- `tables::find` is right: the place is that of a search by the key. Assumes nothing.
+use Rattle.std.proofs.Common.{eqb, rules, tests}
+use Rattle.std.proofs.lemmas.Iterator.{YieldsList-from_slice}
+use Rattle.std.proofs.lemmas.Iterator.Search.{position_from_yields_List}
+use Rattle.tables.proofs.Laws.{first-position}
 use Rattle.tables.proofs.find.Goals as goal
 
-pub loop-i-init : goal.loop-i-init
-loop-i-init c = (search rules, omega arith)
-
-pub returns-then-keys-i : goal.returns-then-keys-i
-returns-then-keys-i c = omega (arith, c.loop-i.invariant.1, first-here c.args.keys.now c.args.key _ (search rules) c.if-keys-i.true)
-
-pub loop-i-preserved : goal.loop-i-preserved
-loop-i-preserved c = (
-  search rules,
-  rw add-one (omega (arith, c.loop-i.invariant.1, first_past c.args.keys.now c.args.key _ (search rules) c.if-keys-i.false)),
-)
-
 pub returns : goal.returns
-returns c = omega (arith, c.loop-i.invariant.1, first-end c.args.keys.now c.args.key c.loop-i.i (search rules))
+returns c =
+    let a = c.args in
+    rw (first-position a.keys.now a.key) (position_from_yields_List (λ k. eqb k a.key) _ _ c.position.result c.position.ensures.ran (YieldsList-from_slice a.keys.now c.iter.ensures.rest) (λ x b q k. search (rules, tests)))

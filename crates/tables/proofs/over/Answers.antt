@@ -1,28 +1,15 @@
--- `tables::over` is right: with no length over the limit no held place has one; else the loop looks at each place,
--- and what is left decides the whole. Assumes nothing.
-use mathlib.Core.Path.{sym, ◌∙◌}
-use native.Mathlib.Numerals.{add-one}
-use borrow.Author.Rules.{rules}
-use Rattle.tables.proofs.Laws.{over_none, over-here, over-low, over-free, over-end}
+-- `tables::over` is right: with no length over the limit no held place has one; else keys and lengths are looked at side by side. Assumes nothing.
+use Rattle.std.proofs.Common.{sym, ◌∙◌, not, ◌&&◌, eqb, ltb, rules, tests}
+use Rattle.std.proofs.lemmas.Iterator.{YieldsList-from_slice, YieldsList-from_zip}
+use Rattle.std.proofs.lemmas.Iterator.Consumers.{YieldsList-at}
+use Rattle.std.proofs.lemmas.Iterator.Search.{any_from_yields_List}
+use Rattle.tables.proofs.Laws.{over_none, over-pairs}
 use Rattle.tables.proofs.over.Goals as goal
-use Rattle.tables.proofs.over.Goals.{else-limit-length_at, then-limit-length_at+else-keys-i-ne-FREE}
 
-pub returns-then-not-any_over : goal.returns-then-not-any_over
-returns-then-not-any_over c = let a = c.args in
-    sym (over_none a.keys.now a.lengths.now a.limit (sym c.any_over.ensures ∙ c.if-not-any_over.true))
+pub returns-then-any_over : goal.returns-then-any_over
+returns-then-any_over c = let a = c.args in
+    rw (over-pairs a.keys.now a.lengths.now a.limit) (any_from_yields_List (λ p. not (eqb p.0 0) && ltb a.limit p.1) c.any.new.self _ c.any.result c.any.ensures.ran (YieldsList-from_zip {s = c.zip.result} (YieldsList-at c.zip.ensures.first (YieldsList-from_slice a.keys.now c.iter.ensures.rest)) (YieldsList-from_slice a.lengths.now c.zip.ensures.second.0)) (λ x b q k. search (rules, tests)))
 
-pub returns-then-keys-i-ne-FREE : goal.returns-then-keys-i-ne-FREE
-returns-then-keys-i-ne-FREE c = let a = c.args in
-    sym (c.loop-i.invariant.1 ∙ over-here a.keys.now a.lengths.now a.limit c.loop-i.i (search rules) c.if-keys-i-ne-FREE.true (rw c.length_at.ensures at c.if-limit-length_at.true))
-
-pub loop-i-preserved : goal.loop-i-preserved
-loop-i-preserved c = (
-  search rules,
-  let a = c.args in
-      c.loop-i.invariant.1
-      ∙ (elim c.if-limit-length_at.branch [ then-limit-length_at+else-keys-i-ne-FREE w ↦ rw add-one (over-free a.keys.now a.lengths.now a.limit c.loop-i.i (search rules) w.if-keys-i-ne-FREE.false) | else-limit-length_at w ↦ rw add-one (over-low a.keys.now a.lengths.now a.limit c.loop-i.i (search rules) (rw c.length_at.ensures at w.if-limit-length_at.false)) ]),
-)
-
-pub returns : goal.returns
-returns c = let a = c.args in
-    sym (c.loop-i.invariant.1 ∙ over-end a.keys.now a.lengths.now a.limit c.loop-i.i (search rules))
+pub returns-else-any_over : goal.returns-else-any_over
+returns-else-any_over c = let a = c.args in
+    c.if-any_over.false ∙ sym (over_none a.keys.now a.lengths.now a.limit (sym c.any_over.ensures ∙ c.if-any_over.false))

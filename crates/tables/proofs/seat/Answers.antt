@@ -1,12 +1,18 @@
 -- `tables::seat` is right: both searches are `find`. Assumes nothing.
-use borrow.Author.Tests.{lt-ltb, le-ltb}
-use Rattle.tables.specs.Keys.{seat_of}
+use mathlib.Core.Path.{◌≡◌, ◌∙◌}
+use lib.ListN.{length}
+use lib.Dec.{ltb}
+use borrow.Author.Rules.{rules}
+use Rattle.std.specs.Prelude.{Option, Some, None, ℕ}
+use Rattle.laws.proofs.Cases.{by}
+use Rattle.tables.specs.Keys.{first_of, seat_of}
 use Rattle.tables.proofs.seat.Goals as goal
 
-pub returns-then-i-keys : goal.returns-then-i-keys
+pub returns : goal.returns
 unfolding seat_of
-returns-then-i-keys c = rw (← c.find-i.ensures, lt-ltb _ _ c.if-i-keys.true)
-
-pub returns-else-i-keys : goal.returns-else-i-keys
-unfolding seat_of
-returns-else-i-keys c = rw (← c.find-i.ensures, le-ltb _ _ c.if-i-keys.false) c.find.ensures
+returns c =
+    let n = length c.args.keys.now in
+    let i = first_of c.args.keys.now c.args.key in
+    by (ltb i n)
+    (λ e. let h : c.find.result ≡ Some i = c.find.ensures ∙ rw e in rw (e, e) (rw h at c.or_else.ensures))
+    (λ e. let h : ◌≡◌ {A = Option ℕ} c.find.result None = c.find.ensures ∙ rw e in rw e (let w = rw h at c.or_else.ensures in search rules))

@@ -6,46 +6,46 @@ use Rattle.utf8.proofs.lead.Goals as goal
 
 ruleset tests = (rules, lt-ltb, le-ltb)
 
-pub returns-then-b-lt128 : goal.returns-then-b-lt128
+pub returns-in-224 : goal.returns-in-224
 unfolding lead_of
-returns-then-b-lt128 c = rw c.wants.ensures (search tests)
+returns-in-224 c = rw c.in-224.is c.wants-in-224.ensures
 
-pub returns-then-b-lt194 : goal.returns-then-b-lt194
+pub returns-in-237 : goal.returns-in-237
 unfolding lead_of
-returns-then-b-lt194 c = rw c.wants-then-b-lt194.ensures (search tests)
+returns-in-237 c = rw c.in-237.is c.wants-in-237.ensures
 
-pub returns-then-b-lt224 : goal.returns-then-b-lt224
+pub returns-in-240 : goal.returns-in-240
 unfolding lead_of
-returns-then-b-lt224 c = rw c.wants-then-b-lt224.ensures (search tests)
+returns-in-240 c = rw c.in-240.is c.wants-in-240.ensures
 
-pub returns-then-b-lt225 : goal.returns-then-b-lt225
+pub returns-in-244 : goal.returns-in-244
 unfolding lead_of
-returns-then-b-lt225 c = rw c.wants-then-b-lt225.ensures (search tests)
+returns-in-244 c = rw c.in-244.is c.wants-in-244.ensures
 
-pub returns-then-b-lt237 : goal.returns-then-b-lt237
+pub returns-then-is_ascii : goal.returns-then-is_ascii
 unfolding lead_of
-returns-then-b-lt237 c = rw c.wants-then-b-lt237.ensures (search tests)
+returns-then-is_ascii c = rw c.wants.ensures (search tests)
 
-pub returns-then-b-lt238 : goal.returns-then-b-lt238
+pub returns-in-194-to-223 : goal.returns-in-194-to-223
 unfolding lead_of
-returns-then-b-lt238 c = rw c.wants-then-b-lt238.ensures (search tests)
+returns-in-194-to-223 c = rw c.wants-in-194-to-223.ensures (search tests)
 
-pub returns-then-b-lt240 : goal.returns-then-b-lt240
+pub returns-in-225-to-236 : goal.returns-in-225-to-236
 unfolding lead_of
-returns-then-b-lt240 c = rw c.wants-then-b-lt240.ensures (search tests)
+returns-in-225-to-236 c = rw c.wants-in-225-to-236.ensures (search tests)
 
-pub returns-then-b-lt241 : goal.returns-then-b-lt241
+pub returns-in-238-to-239 : goal.returns-in-238-to-239
 unfolding lead_of
-returns-then-b-lt241 c = rw c.wants-then-b-lt241.ensures (search tests)
+returns-in-238-to-239 c = rw c.wants-in-238-to-239.ensures (search tests)
 
-pub returns-then-b-lt244 : goal.returns-then-b-lt244
+pub returns-in-241-to-243 : goal.returns-in-241-to-243
 unfolding lead_of
-returns-then-b-lt244 c = rw c.wants-then-b-lt244.ensures (search tests)
+returns-in-241-to-243 c = rw c.wants-in-241-to-243.ensures (search tests)
 
-pub returns-then-b-lt245 : goal.returns-then-b-lt245
+pub returns-in_default : goal.returns-in_default
 unfolding lead_of
-returns-then-b-lt245 c = rw c.wants-then-b-lt245.ensures (search tests)
+returns-in_default c = search tests
 
-pub returns : goal.returns
+pub returns-in_default-2 : goal.returns-in_default-2
 unfolding lead_of
-returns c = rw c.wants-2.ensures (search tests)
+returns-in_default-2 c = search tests

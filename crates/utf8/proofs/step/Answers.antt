@@ -3,6 +3,7 @@ use borrow.Author.Tests.{lt-ltb, le-ltb, eq-eqb, ne_eqb}
 use Rattle.utf8.specs.Scan.{step_of}
 use borrow.Author.Rules.{rules}
 use Rattle.utf8.proofs.step.Goals as goal
+use Rattle.utf8.proofs.step.Goals.{then-b-w-via-then-b-w, then-b-w-via-else-b-w+then-w-b}
 
 ruleset tests = (rules, lt-ltb, le-ltb, eq-eqb, ne_eqb)
 
@@ -12,12 +13,8 @@ returns-then-w-eq0 c = rw c.lead.ensures (search tests)
 
 pub returns-then-b-w : goal.returns-then-b-w
 unfolding step_of
-returns-then-b-w c = rw c.wants.ensures (search tests)
-
-pub returns-then-w-b : goal.returns-then-w-b
-unfolding step_of
-returns-then-w-b c = rw c.wants-then-w-b.ensures (search tests)
+returns-then-b-w c = elim c.then-b-w.branch [ then-b-w-via-then-b-w w ↦ search tests | then-b-w-via-else-b-w+then-w-b w ↦ search tests ]
 
 pub returns : goal.returns
 unfolding step_of
-returns c = rw c.wants-2.ensures (search tests)
+returns c = rw c.wants.ensures (search tests)

@@ -1,16 +1,9 @@
 -- `crc::by_words::tail` takes the last bytes in: the word's low bits go through and its high ones move down, and the bytes stand above them. Assumes nothing.
 use Prim.Native.Nat.{◌-◌}
-use mathlib.Core.Path.{sym}
 use native.Mathlib.Omega.{arith}
 use lib.ListN.{length}
-use Rattle.crc.specs.Crc.{crc_bits}
-use Rattle.crc.proofs.Laws.{crc_from-end}
 use Rattle.crc.proofs.Words.{crc_from-tail}
 use Rattle.crc.proofs.by_words.tail.Goals as goal
-
-pub returns-then-i-n : goal.returns-then-i-n
-returns-then-i-n c = let a = c.args in
-    sym (crc_from-end a.b.now a.i (crc_bits 64 a.x) (omega arith))
 
 pub returns : goal.returns
 returns c = let a = c.args in

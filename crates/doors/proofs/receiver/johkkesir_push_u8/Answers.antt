@@ -1,44 +1,60 @@
--- `doors::receiver::johkkesir_push_u8` asks for 12, hands a byte to the receiver that it is lent and lays out what comes back. Assumes nothing.
-use mathlib.Core.Path.{◌≡◌, refl, ap}
-use borrow.Author.Tests.{lt-ltb, le-ltb}
+-- `doors::receiver::johkkesir_push_u8` hands a byte to the receiver that it is lent and lays out what comes back: 12 leaves a receiver over its limit,
+-- and no other. Assumes nothing.
+use Rattle.std.proofs.Common.{◌≡◌, ◌<◌, ℕ, Ok, Err, sym, refl, ap, ◌∙◌, arith, ltb-true, ltb-false, lt-ltb, le-ltb}
+use Rattle.laws.proofs.Cases.{by}
 use Rattle.crc.specs.Crc.{crc_of}
-use Rattle.link_receive.specs.declared.Answer.{Answer}
-use Rattle.link_receive.specs.declared.Answer.TheVariants as answer
-use Rattle.link_receive.specs.declared.numbered.Numbers.{Numbers}
-use Rattle.link_receive.specs.Numbered.{receiver_at}
-use Rattle.link_receive.specs.Step.{rules_of, step_of}
-use Rattle.link_receive.proofs.Numbers.{numbers_told-within}
+use Rattle.link_receive.specs.declared.Stepped.{Stepped}
+use Rattle.link_receive.specs.declared.Receiver.{Receiver}
+use Rattle.link_receive.specs.Frames.{Answered}
+use Rattle.link_receive.specs.Numbered.{receiver_at, numbers_of}
+use Rattle.link_receive.specs.Step.{rules_of, too_long, Within, step_of}
+use Rattle.link_receive.proofs.Numbers.{numbers_told-ok, numbers_told-err}
 use Rattle.link_receive.proofs.Steps.{step_of-over}
 use Rattle.link_feed.proofs.Drains.{step_of-steady}
-use Rattle.doors.specs.Receivers.{taken_by}
+use Rattle.doors.specs.Receivers.{taken_by, found_of}
 use Rattle.doors.proofs.receiver.johkkesir_push_u8.Goals as goal
 
 -- a step that is no refusal takes its byte
-taken-one : (a : Answer) → (a ≡ answer.Refused → ⊥) → taken_by a ≡ 1
-taken-one answer.Nothing n = refl
-taken-one (answer.Frame address t len) n = refl
-taken-one answer.Refused n = absurd (n refl)
+taken-one : (a : Answered) → (a ≡ Err (record {}) → ⊥) → taken_by a ≡ 1
+taken-one (Ok x) n = refl
+taken-one (Err x) n = absurd (n refl)
 
-pub returns-then-was-gt256 : goal.returns-then-was-gt256
+-- who is within the limit after a step was so before it, and who is over it too
+within-before : (q : Receiver) (b : ℕ) → Within (step_of crc_of q b).next → Within q
 unfolding rules_of
-returns-then-was-gt256 c =
-    let a = c.args in
-    let o = step_of-over crc_of (receiver_at a.numbers.now a.body.now) a.b c.if-was-gt256.true in
-    record { value = rw o; numbers_after = rw (lt-ltb _ _ c.if-was-gt256.true); body_after = rw o; found_after = rw (c.found_by-news.ensures, o) }
+within-before q b h =
+    by (too_long q)
+    (λ t.
+    let over = ltb-true (rules_of q).limit q.len t in
+    absurd (omega (arith, over, h, ap (λ (x : Stepped). x.next.len) (step_of-over crc_of q b over))))
+    (λ t. ltb-false (rules_of q).limit q.len t)
+
+over-before : (q : Receiver) (b : ℕ) → (rules_of (step_of crc_of q b).next).limit < (step_of crc_of q b).next.len → (rules_of q).limit < q.len
+unfolding rules_of
+over-before q b h =
+    by (too_long q)
+    (λ t. ltb-true (rules_of q).limit q.len t)
+    (λ t. absurd (omega (arith, h, (step_of-steady crc_of q b (ltb-false (rules_of q).limit q.len t)).within)))
+
+pub returns-in_default : goal.returns-in_default
+unfolding rules_of
+returns-in_default c = let a = c.args in
+    let q = receiver_at a.numbers.now a.body.now in
+    let e : c.push_u8-f.result ≡ step_of crc_of q a.b = rw c.receiver_at-r.ensures at c.push_u8-f.ensures in
+    let over = over-before q a.b (rw e at (numbers_told-err _ _ (sym c.numbers_of.ensures ∙ c.in_default.is))) in
+    let o = step_of-over crc_of q a.b over in
+    record { value = rw o; numbers_after = rw (lt-ltb _ _ over); body_after = rw o; found_after = rw (c.found_by.ensures, e) }
 
 pub returns : goal.returns
 unfolding rules_of
-returns c =
-    let a = c.args in
+returns c = let a = c.args in
     let q = receiver_at a.numbers.now a.body.now in
-    let f = c.push_u8-f.ensures in
-    let r = c.receiver_at-r.ensures in
-    let within = c.if-was-gt256.false in
-    let steady = step_of-steady crc_of q a.b within in
-    let put = ap (λ (p : Numbers). p.numbers) c.numbers_of-put.ensures in
+    let e : c.push_u8-f.result ≡ step_of crc_of q a.b = rw c.receiver_at-r.ensures at c.push_u8-f.ensures in
+    let told = numbers_told-ok _ _ (sym c.numbers_of.ensures ∙ c.in-Ok.is) in
+    let within = within-before q a.b (rw e at told.0) in
     record {
-      value = rw (taken-one (step_of crc_of q a.b).answer steady.answers);
-      numbers_after = rw (put, f, r, le-ltb _ _ within) (numbers_told-within (step_of crc_of q a.b).next steady.within);
-      body_after = rw (f, r);
-      found_after = rw (c.found_by-news-2.ensures, f, r);
+      value = rw (taken-one (step_of crc_of q a.b).answer (step_of-steady crc_of q a.b within).answers);
+      numbers_after = rw (le-ltb _ _ within) (told.1 ∙ ap (λ (x : Stepped). numbers_of x.next) e);
+      body_after = ap (λ (x : Stepped). x.next.body) e;
+      found_after = rw (c.found_by.ensures, e);
     }

@@ -7,9 +7,6 @@ use Rattle.link_feed.specs.Advance.{held_of}
 use Rattle.link_feed.proofs.Onwards.{stretched-tail, stretched-none}
 use Rattle.link_feed.proofs.feeding.stretch.Goals as goal
 
-pub returns-in-Frame : goal.returns-in-Frame
-returns-in-Frame c = rw c.in-Frame.is c.inside.ensures
-
 pub returns-in-Giant : goal.returns-in-Giant
 returns-in-Giant c = let a = c.args in
     rw c.in-Giant.is (stretched-tail crc_of a.s.now fresh_of a.body.now a.len (tallies_at a.tallies.now) a.i c.tail-at.result c.requires.0 c.tail-at.ensures)
@@ -17,4 +14,4 @@ returns-in-Giant c = let a = c.args in
 pub returns-in_default : goal.returns-in_default
 unfolding rules_of
 returns-in_default c = let a = c.args in
-    stretched-none crc_of a.s.now (held_of a.state a.body.now a.len a.tallies.now) a.i (search rules) c.requires.0 c.requires.4
+    stretched-none crc_of a.s.now (held_of a.state a.body.now a.len a.tallies.now) a.i (search rules) c.requires.0 c.requires.2

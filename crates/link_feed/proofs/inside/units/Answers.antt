@@ -6,33 +6,21 @@ use Rattle.link_receive.specs.Step.{fresh_of, rules_of}
 use Rattle.link_receive.proofs.Rules.{limit-full}
 use Rattle.link_receive.proofs.Turns.{escape-push}
 use Rattle.link_feed.proofs.Skips.{raw-other}
-use Rattle.link_feed.proofs.Held.{held_none, held-run, run-some, held-byte, held-escape, held-coded}
+use Rattle.link_feed.proofs.Held.{held-run, run-some, held-byte, held-escape, held-coded}
 use Rattle.link_feed.proofs.inside.units.Goals as goal
 
-pub loop-i-init : goal.loop-i-init
-loop-i-init c = let a = c.args in held_none crc_of fresh_of a.s.now a.body.now a.len0 a.i0 (search rules) (search rules) (search rules)
-
-pub overflow_sub-s : goal.overflow_sub-s
-overflow_sub-s c = c.loop-i.invariant.ahead.inside
-
-pub bounds-body-len : goal.bounds-body-len
-bounds-body-len c = omega (arith, c.loop-i.invariant.sized)
-
-pub loop-i-preserved-in-Byte : goal.loop-i-preserved-in-Byte
+pub loop-i-preserved-in-Ok : goal.loop-i-preserved-in-Ok
 unfolding rules_of
-loop-i-preserved-in-Byte c = let a = c.args in
+loop-i-preserved-in-Ok c = let a = c.args in
     let l = c.loop-i in
     let u = c.unescaped_byte in
-    held-escape crc_of fresh_of a.s.now a.body.now a.len0 a.i0 l.body l.len l.i l.invariant _ (omega arith) (omega arith) c.if-b-eq126.true (sym (escape-push (rules_of fresh_of) u.result l.len (get_or a.s.now (l.i + 1) 0) u.ensures _ c.in-Byte.is (omega arith)))
+    held-escape crc_of fresh_of a.s.now a.body.now a.len0 a.i0 l.body l.len l.i l.invariant _ (omega arith) (omega arith) c.if-b-eq126.true (sym (escape-push (rules_of fresh_of) u.result l.len (get_or a.s.now (l.i + 1) 0) u.ensures _ c.in-Ok.is (omega arith)))
 
-pub returns-in-Invalid : goal.returns-in-Invalid
-returns-in-Invalid c = let a = c.args in
+pub returns-in-Err : goal.returns-in-Err
+returns-in-Err c = let a = c.args in
     let l = c.loop-i in
     let u = c.unescaped_byte in
-    held-coded crc_of fresh_of a.s.now a.body.now a.len0 a.i0 l.body l.len l.i l.invariant (get_or a.s.now (l.i + 1) 0) (omega arith) c.if-b-eq126.true u.result u.ensures c.in-Invalid.is refl
-
-pub bounds-body-len-then-soon : goal.bounds-body-len-then-soon
-bounds-body-len-then-soon c = omega (arith, c.loop-i.invariant.sized)
+    held-coded crc_of fresh_of a.s.now a.body.now a.len0 a.i0 l.body l.len l.i l.invariant (get_or a.s.now (l.i + 1) 0) (omega arith) c.if-b-eq126.true u.result u.ensures c.in-Err.is refl
 
 pub loop-i-preserved-then-soon : goal.loop-i-preserved-then-soon
 unfolding rules_of
@@ -45,35 +33,26 @@ unfolding rules_of
 overflow_add-len-in-loop-i c = let a = c.args in
     let l = c.loop-i in
     let run = c.copy_run-k in
-    let g = held-run crc_of fresh_of a.s.now a.body.now a.len0 a.i0 l.body l.len l.i l.invariant limit-full run.new.d run.result run.ensures.count run.ensures.bytes in
-    omega (arith, g.ahead.within)
+    let g = held-run crc_of fresh_of a.s.now a.body.now a.len0 a.i0 l.body l.len l.i l.invariant limit-full (search rules) run.new.d run.result run.ensures.count run.ensures.bytes in
+    omega (arith, g.within)
 
 pub overflow_add-i-in-loop-i : goal.overflow_add-i-in-loop-i
 overflow_add-i-in-loop-i c = let a = c.args in
     let l = c.loop-i in
     let run = c.copy_run-k in
-    let g = held-run crc_of fresh_of a.s.now a.body.now a.len0 a.i0 l.body l.len l.i l.invariant limit-full run.new.d run.result run.ensures.count run.ensures.bytes in
-    omega (arith, g.ahead.inside)
+    let g = held-run crc_of fresh_of a.s.now a.body.now a.len0 a.i0 l.body l.len l.i l.invariant limit-full (search rules) run.new.d run.result run.ensures.count run.ensures.bytes in
+    omega (arith, g.inside)
 
 pub loop-i-smaller : goal.loop-i-smaller
 unfolding rules_of
 loop-i-smaller c = let a = c.args in
     let l = c.loop-i in
     let run = c.copy_run-k in
-    let g = held-run crc_of fresh_of a.s.now a.body.now a.len0 a.i0 l.body l.len l.i l.invariant limit-full run.new.d run.result run.ensures.count run.ensures.bytes in
-    omega (arith, g.ahead.inside, run-some a.s.now l.i (length l.body - l.len) run.result (omega (arith, l.invariant.sized)) (omega arith) (raw-other _ c.if-b-eq126.false) run.ensures.count)
+    let g = held-run crc_of fresh_of a.s.now a.body.now a.len0 a.i0 l.body l.len l.i l.invariant limit-full (search rules) run.new.d run.result run.ensures.count run.ensures.bytes in
+    omega (arith, g.inside, run-some a.s.now l.i (length l.body - l.len) run.result (omega arith) (omega arith) (raw-other _ c.if-b-eq126.false) run.ensures.count)
 
 pub loop-i-preserved : goal.loop-i-preserved
 loop-i-preserved c = let a = c.args in
     let l = c.loop-i in
     let run = c.copy_run-k in
-    held-run crc_of fresh_of a.s.now a.body.now a.len0 a.i0 l.body l.len l.i l.invariant limit-full run.new.d run.result run.ensures.count run.ensures.bytes
-
-pub returns-after-loop-i : goal.returns-after-loop-i
-returns-after-loop-i c = c.loop-i.invariant.ahead
-
-pub returns-then-len-ge-MAX_FRAME_SIZE : goal.returns-then-len-ge-MAX_FRAME_SIZE
-returns-then-len-ge-MAX_FRAME_SIZE c = c.loop-i.invariant.ahead
-
-pub returns-then-len-ge-MAX_FRAME_SIZE-2 : goal.returns-then-len-ge-MAX_FRAME_SIZE-2
-returns-then-len-ge-MAX_FRAME_SIZE-2 c = c.loop-i.invariant.ahead
+    held-run crc_of fresh_of a.s.now a.body.now a.len0 a.i0 l.body l.len l.i l.invariant limit-full (search rules) run.new.d run.result run.ensures.count run.ensures.bytes

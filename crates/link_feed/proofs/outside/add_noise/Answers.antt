@@ -5,4 +5,4 @@ use Rattle.link_feed.proofs.outside.add_noise.Goals as goal
 
 pub returns : goal.returns
 returns c = let a = c.args in
-    rw c.wrapping_add_u64.ensures.value (tallies_at-noised a.tallies.now a.count c.requires (search rules))
+    rw c.index_of-i.ensures.0 (tallies_at-noised a.tallies.now a.count (search rules) (search rules))

@@ -5,24 +5,12 @@ use Rattle.byte_runs.specs.Runs.{is_of}
 use Rattle.byte_runs.specs.declared.Sort.TheVariants as sort
 use Rattle.byte_runs.proofs.Laws.{run_inside}
 use Rattle.link_receive.specs.Step.{fresh_of}
-use Rattle.link_feed.proofs.Passes.{passed_none, passed-one, passed-three, passed-lull}
+use Rattle.link_feed.proofs.Passes.{passed-one, passed-three, passed-lull}
 use Rattle.link_feed.proofs.outside.lull.Goals as goal
-
-pub returns-then-noisy : goal.returns-then-noisy
-returns-then-noisy c = passed_none crc_of fresh_of _ _ _ (search rules)
-
-pub returns-then-not-is : goal.returns-then-not-is
-returns-then-not-is c = passed_none crc_of fresh_of _ _ _ (search rules)
-
-pub returns-then-s-i-lt2 : goal.returns-then-s-i-lt2
-returns-then-s-i-lt2 c = passed_none crc_of fresh_of _ _ _ (search rules)
 
 pub returns-then-s-i-eq126 : goal.returns-then-s-i-eq126
 returns-then-s-i-eq126 c = let a = c.args in
     rw c.if-noisy.false (passed-one crc_of fresh_of a.s.now a.i (search rules) (sym c.is.ensures ∙ c.if-not-is.false))
-
-pub overflow_add-result-then-three : goal.overflow_add-result-then-three
-overflow_add-result-then-three c = let t = c.three.ensures c.if-three.true in omega (arith, t.0)
 
 pub returns-then-three : goal.returns-then-three
 returns-then-three c = let a = c.args in

@@ -5,25 +5,12 @@ use Rattle.reading.specs.Counters as k
 use Rattle.link_receive.specs.Tally.{raise}
 use Rattle.link_receive.specs.Step.{fresh_of}
 use Rattle.link_receive.specs.Numbered.{tallies_at}
-use Rattle.link_feed.proofs.Passes.{led-end, led-lone, led-open}
+use Rattle.link_feed.proofs.Passes.{led-lone, led-open}
 use Rattle.link_feed.proofs.outside.outside.Goals as goal
-
-pub overflow_sub-s : goal.overflow_sub-s
-overflow_sub-s c = c.calm-q.ensures.0.inside
-
-pub returns-then-at-s : goal.returns-then-at-s
-returns-then-at-s c = let a = c.args in
-    led-end crc_of fresh_of a.s.now a.noisy a.i c.calm-q.result c.calm-q.ensures.0 a.len (tallies_at a.tallies.now) _ c.requires.0 _ _ c.if-at-s.true c.line_of-state.ensures c.held_after-held.ensures c.add_noise.ensures
-
-pub overflow_add-result : goal.overflow_add-result
-overflow_add-result c = omega (arith, c.calm-q.ensures.0.inside)
 
 pub returns-then-s-at-lt2 : goal.returns-then-s-at-lt2
 returns-then-s-at-lt2 c = let a = c.args in
     led-lone crc_of fresh_of a.s.now a.noisy a.i c.calm-q.result c.calm-q.ensures.0 a.len (tallies_at a.tallies.now) _ c.requires.0 _ (omega (arith, c.calm-q.ensures.0.inside)) (c.calm-q.ensures.1.lone (omega (arith, c.calm-q.ensures.0.inside))) c.held_after-held.ensures c.add_noise.ensures
-
-pub overflow_add-result-2 : goal.overflow_add-result-2
-overflow_add-result-2 c = omega (arith, c.calm-q.ensures.0.inside)
 
 pub returns : goal.returns
 returns c = let a = c.args in

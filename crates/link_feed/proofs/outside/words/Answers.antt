@@ -1,15 +1,12 @@
 -- `link_feed::outside::words` takes what the words bring. Assumes nothing.
-use Rattle.std.proofs.Common.{sym, subst, arith, rules}
+use Rattle.std.proofs.Common.{sym, subst, arith}
 use Rattle.crc.specs.Crc.{crc_of}
 use Rattle.byte_runs.specs.declared.Heard.{Heard}
 use Rattle.byte_runs.specs.Noises.{Noised}
 use Rattle.byte_runs.proofs.NoiseLaws.{noises-are}
 use Rattle.link_receive.specs.Step.{fresh_of}
-use Rattle.link_feed.proofs.Passes.{passed_none, passed-noised}
+use Rattle.link_feed.proofs.Passes.{passed-noised}
 use Rattle.link_feed.proofs.outside.words.Goals as goal
-
-pub returns-then-short : goal.returns-then-short
-returns-then-short c = passed_none crc_of fresh_of _ _ _ (search rules)
 
 pub returns : goal.returns
 returns c = let a = c.args in

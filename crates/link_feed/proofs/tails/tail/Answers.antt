@@ -1,12 +1,12 @@
 -- `link_feed::tails::tail` skips what does not end a tail, then 07 or 08 that ends no pair and some units more, and so on: each time feeding on from
 -- there is feeding from where it began. Assumes nothing.
-use Rattle.std.proofs.Common.{◌≡◌, ℕ, ◌+◌, ◌-◌, Bool, false, List, length, drop, sym, ◌∙◌, arith, rules}
+use Rattle.std.proofs.Common.{◌≡◌, ℕ, ◌+◌, ◌-◌, Bool, false, List, length, drop, sym, ◌∙◌, arith}
 use Rattle.crc.specs.Crc.{crc_of}
 use Rattle.link_receive.specs.Step.{fresh_of}
 use Rattle.byte_runs.specs.Runs.{is_of, lead}
 use Rattle.byte_runs.specs.declared.Sort.TheVariants as sort
 use Rattle.link_feed.specs.Advance.{half_at, Skipped}
-use Rattle.link_feed.proofs.Skips.{skipped-none, skipped-then, tail-inside, tail-half, tail-whole, tail-past}
+use Rattle.link_feed.proofs.Skips.{skipped-then, tail-inside, tail-half, tail-whole, tail-past}
 use Rattle.link_feed.proofs.tails.tail.Goals as goal
 
 -- the place behind the byte that ends the run
@@ -15,19 +15,11 @@ past :
     Skipped crc_of fresh_of s i₀ (i + m + 1)
 past s i₀ i m k e h f g n = tail-past crc_of fresh_of s i₀ i m k e (sym f ∙ g) (omega (arith, tail-inside crc_of fresh_of s i₀ i k m e, n))
 
-pub loop-i-init : goal.loop-i-init
-loop-i-init c = skipped-none crc_of _ _ _ (search rules)
-
 pub overflow_add-j : goal.overflow_add-j
 overflow_add-j c = let l = c.loop-i in omega (arith, tail-inside crc_of _ _ _ l.i l.invariant c.run-k.result c.run-k.ensures)
 
 pub half-requires : goal.half-requires
 half-requires c = let l = c.loop-i in (omega arith, tail-inside crc_of _ _ _ l.i l.invariant c.run-k.result c.run-k.ensures)
-
-pub overflow_sub-result : goal.overflow_sub-result
-overflow_sub-result c = let l = c.loop-i in
-    let run = c.run-k in
-    omega (arith, (tail-half crc_of _ _ _ l.i l.invariant run.result run.ensures (sym c.half.ensures ∙ c.if-half.true)).0)
 
 pub returns-then-half : goal.returns-then-half
 returns-then-half c = let l = c.loop-i in
@@ -47,17 +39,8 @@ overflow_add-next c = let l = c.loop-i in
 pub end_of-end-requires : goal.end_of-end-requires
 end_of-end-requires c = (past c.args.s.now c.args.i0 c.loop-i.i c.run-k.result c.loop-i.invariant c.run-k.ensures c.half.result c.half.ensures c.if-half.false c.if-j-s.false).inside
 
-pub few-i-requires : goal.few-i-requires
-few-i-requires c = (c.end_of-end.ensures.0, c.end_of-end.ensures.1)
-
-pub loop-i-smaller : goal.loop-i-smaller
-loop-i-smaller c = omega (arith, (past c.args.s.now c.args.i0 c.loop-i.i c.run-k.result c.loop-i.invariant c.run-k.ensures c.half.result c.half.ensures c.if-half.false c.if-j-s.false).inside, c.few-i.ensures.further)
-
 pub loop-i-preserved : goal.loop-i-preserved
 loop-i-preserved c = skipped-then crc_of fresh_of _ _ _ _ (past c.args.s.now c.args.i0 c.loop-i.i c.run-k.result c.loop-i.invariant c.run-k.ensures c.half.result c.half.ensures c.if-half.false c.if-j-s.false) c.few-i.ensures
-
-pub returns-after-loop-i : goal.returns-after-loop-i
-returns-after-loop-i c = c.loop-i.invariant
 
 pub returns-then-i-end : goal.returns-then-i-end
 returns-then-i-end c = skipped-then crc_of fresh_of _ _ _ _ (past c.args.s.now c.args.i0 c.loop-i.i c.run-k.result c.loop-i.invariant c.run-k.ensures c.half.result c.half.ensures c.if-half.false c.if-j-s.false) c.few-i.ensures

@@ -1,5 +1,0 @@
--- `EnumerationStartRequest::read`: the length is 6, and each field is read at its place. Assumes nothing.
-use Rattle.layouts.proofs.EnumerationStartRequest.read.Goals as goal
-
-pub returns : goal.returns
-returns c = rw (c.byte_at-6.ensures, c.byte_at-5.ensures, c.byte_at-4.ensures, c.byte_at-3.ensures, c.byte_at-2.ensures, c.byte_at.ensures, c.exact_length-length.ensures)

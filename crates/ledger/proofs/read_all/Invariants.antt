@@ -1,5 +1,0 @@
--- `ledger::read_all` is safe and ends: the measure is the number of turns that are left. Assumes nothing.
-use Rattle.ledger.proofs.read_all.Given as goal
-
-abbrev pub decreases-loop-turns : goal.decreases-loop-turns
-decreases-loop-turns l = l.turns

@@ -1,0 +1,6 @@
+-- `vectors_records::file` ends: each row takes at least 16 bytes. Assumes nothing.
+use Rattle.std.proofs.Common.{length}
+use Rattle.vectors_records.proofs.file.Given as goal
+
+abbrev pub decreases-loop-row : goal.decreases-loop-row
+decreases-loop-row l = length l.rest
