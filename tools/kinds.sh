@@ -12,9 +12,9 @@ KINDS="address::GatewayID link::Type transport::PacketNumber transport::CommandS
 exchanges() {
     cat <<'CALLS'
 command_frames|2|command_key(address.gateway(), sequence)|command_key(sequence, address.gateway())
-plain_frames|1|by_type(counters, address, frame_type, payload)|by_type(counters, frame_type, address, payload)
-transport_receiver|1|untabled(counters, address, frame_type, payload)|untabled(counters, frame_type, address, payload)
-transport_receiver|1|counters, address,\n        frame_type, payload,|counters, frame_type,\n        address, payload,
+plain_frames|1|by_type(counters, address, frame_type, payload)|by_type(counters, Address::To(frame_type), address.gateway(), payload)
+transport_receiver|1|untabled(counters, address, frame_type, payload)|untabled(counters, Address::To(frame_type), address.gateway(), payload)
+transport_receiver|1|counters, address,\n        frame_type, payload,|counters, Address::To(frame_type),\n        address.gateway(), payload,
 transport_receiver|1|            address,\n            frame_type,\n|            frame_type,\n            address,\n
 CALLS
 }

@@ -1,5 +1,5 @@
 -- The 33 counters, by the source's names and in its order (`Counters` of transport/receiver.rs): the place of each. Assumes nothing.
-use Rattle.std.specs.Prelude.{cond, ℕ, ◌+◌, ◌%◌, ◌^◌, List, slice_index, slice_set}
+use Rattle.std.specs.Prelude.{cond, ℕ, ◌+◌, ◌%◌, ◌^◌, List, nat_lt, slice_index, slice_set}
 use Rattle.laws.specs.Wrap.{raised}
 use Rattle.network.specs.Split.{tally_of}
 
@@ -114,6 +114,14 @@ add n i counters = slice_set counters i ((slice_index counters i + n) % 2 ^ 64)
 -- one more of a counter, by the same rule
 abbrev pub raise : ℕ → List ℕ → List ℕ
 raise i counters = slice_set counters i (raised (slice_index counters i))
+
+-- the counter at a place, if there is one there
+abbrev pub add_at : ℕ → ℕ → List ℕ → List ℕ
+add_at n i counters = cond (nat_lt i counter_count) (add n i counters) counters
+
+-- and one more of it, by the same rule
+abbrev pub raise_at : ℕ → List ℕ → List ℕ
+raise_at i counters = cond (nat_lt i counter_count) (raise i counters) counters
 
 -- both packet counters are raised by the transport step itself, for the whole area, walked or not
 abbrev pub count_packets : List ℕ → List ℕ → List ℕ

@@ -2,6 +2,9 @@
 ghost use Rattle.std.specs.Prelude.{◌≡◌};
 ghost use Rattle.answers.specs.Places.{place_of};
 
+// How many there are.
+pub const COUNT: usize = 33;
+
 #[derive(Clone, Copy)]
 pub enum Counter {
     UnhandledFrameType,

@@ -1,10 +1,10 @@
 // Counters raised, and keys of places.
 ghost use Rattle.std.specs.Prelude.{◌≡◌, suc};
-ghost use Rattle.answers.specs.Counters.{raise, add};
+ghost use Rattle.answers.specs.Counters.{raise, raise_at, add, add_at};
 ghost use Rattle.answers.specs.Places.{place_of};
 ghost use Rattle.answers.specs.Stored.{gateway_key, command_key};
 
-use crate::counters::Counter;
+use crate::counters::{COUNT, Counter};
 use address::GatewayID;
 use transport::CommandSequenceNumber;
 
@@ -16,6 +16,22 @@ pub const STRIDE: usize = 245;
 
 // How many bytes the pool has.
 pub const POOL: usize = 15680;
+
+// The counter at a place raised by `n`; past the last there is none.
+pub fn add_at(counters: &mut [u64; 33], place: usize, n: u64)
+    ensures { counters.new ≡ add_at n place counters.old }
+{
+    if place < COUNT {
+        counters[place] = counters[place].wrapping_add(n);
+    }
+}
+
+// The counter at a place raised by one; past the last there is none.
+pub fn raise_at(counters: &mut [u64; 33], place: usize)
+    ensures { counters.new ≡ raise_at place counters.old }
+{
+    add_at(counters, place, 1);
+}
 
 // One counter raised by `n`.
 pub fn add(counters: &mut [u64; 33], counter: Counter, n: u64)

@@ -6,15 +6,15 @@ ghost use Rattle.std.specs.Prelude.{◌≡◌};
 ghost use Rattle.std.specs.Io.{ReadsAtMost};
 ghost use Rattle.console.specs.declared.Failure.TheVariants.{Output};
 
-use arrayvec::ArrayString;
 use asked::{Asked, Named, WrongWords};
 use books::Ledger;
+use reason::reason_of;
 use std::env::Env;
-use std::fmt::Write;
 use std::fs::File;
 use std::io::{Error, Print, Read, Result, Stdin};
 
 mod asked;
+mod reason;
 pub mod text;
 
 // The system's numbers of two errors: of a word that no buffer holds, and of a name that is no text, which std opens no file by.
@@ -65,14 +65,6 @@ impl From<Error> for Failure {
     }
 }
 
-// The words of an error without its number, which the system's have behind them, as in `No such file or directory (os error 2)`.
-fn reason_in(words: &str) -> &str {
-    match words.rsplit_once(" (os error ") {
-        Some((reason, _)) => reason,
-        None => words,
-    }
-}
-
 // A program: its name, the one option that it has beside `--help`, empty if it has none, its usage and the help behind it.
 #[derive(Clone, Copy)]
 pub struct Program<'a> {
@@ -85,13 +77,11 @@ pub struct Program<'a> {
 impl<'a> Program<'a> {
     // Says on standard error what failed, and why: the line of an error begins with the program's name.
     pub fn fail(&self, rt: &HostRuntime, what: &[u8], why: Error) {
-        let mut words = ArrayString::<300>::new();
-        let _ = write!(words, "{why}");
-        let reason = reason_in(words.as_str());
         let name = self.name;
+        let reason = reason_of(why);
         let _ = eprint!(rt; "{name}: ");
         let _ = rt.stderr().write_all(what);
-        let _ = eprintln!(rt; ": {reason}");
+        let _ = rt.stderr().write_all(reason.line());
     }
 
     // Says that a write failed.

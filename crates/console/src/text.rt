@@ -1,5 +1,5 @@
-// Text in an output buffer. Each method puts bytes behind what stands there; what has no place in the buffer is left out, and a caller makes
-// room first (`with_room`).
+// Text in an output buffer. A function is lent a buffer and a place in it, puts bytes there and gives the place behind them; a method of `Output`
+// does the same behind what stands in it. What has no place in the buffer is left out, and a caller makes room first (`with_room`).
 ghost use Rattle.std.specs.Prelude.{◌≡◌, ◌<◌};
 ghost use Rattle.io.specs.Digits.{hex_digit_ascii};
 ghost use Rattle.console.specs.Room.{Roomy};
@@ -15,7 +15,7 @@ pub struct Output {
 }
 
 // Puts a byte at a place, if the place is there, and gives the next.
-fn put_at(bytes: &mut [u8; 65536], at: usize, b: u8) -> usize
+pub fn put(bytes: &mut [u8], at: usize, b: u8) -> usize
     ensures { output bytes.new result ≡ put_byte (output bytes.old at) b }
 {
     if at < bytes.len() {
@@ -26,11 +26,55 @@ fn put_at(bytes: &mut [u8; 65536], at: usize, b: u8) -> usize
 }
 
 // Puts a byte at a place as two hex digits, and gives the next.
-fn put_pair(bytes: &mut [u8; 65536], at: usize, b: u8) -> usize
+fn put_pair(bytes: &mut [u8], at: usize, b: u8) -> usize
     ensures { output bytes.new result ≡ put_bytes (output bytes.old at) (hex_of b) }
 {
-    let next = put_at(bytes, at, digit(b / 16));
-    put_at(bytes, next, digit(b % 16))
+    let next = put(bytes, at, digit(b / 16));
+    put(bytes, next, digit(b % 16))
+}
+
+// Puts bytes, one after another.
+pub fn put_all(bytes: &mut [u8], at: usize, s: &[u8]) -> usize
+    ensures { output bytes.new result ≡ put_bytes (output bytes.old at) s.now }
+{
+    let mut next = at;
+    for b in s {
+        next = put(bytes, next, *b);
+    }
+    next
+}
+
+// Puts bytes in hex, two digits each.
+pub fn put_hex(bytes: &mut [u8], at: usize, s: &[u8]) -> usize
+    ensures { output bytes.new result ≡ put_bytes (output bytes.old at) (hexes_of s.now) }
+{
+    let mut next = at;
+    for b in s {
+        next = put_pair(bytes, next, *b);
+    }
+    next
+}
+
+// Writes what stands in a buffer before a place, all of it or not well. The buffer is free then.
+pub fn flush(rt: &HostRuntime, bytes: &[u8], at: &mut usize) -> Result<()>
+    ensures { at.new ≡ 0 }
+{
+    let end = *at;
+    *at = 0;
+    match bytes.get(..end) {
+        Some(text) => rt.write_all(text),
+        None => Err(Error::from(ErrorKind::InvalidInput)),
+    }
+}
+
+// Sees that there is room for so many bytes more behind a place: where there is none, what stands before it is written.
+pub fn with_room(rt: &HostRuntime, bytes: &[u8], at: &mut usize, need: usize) -> Result<()>
+    ensures { Roomy bytes.now at.new need }
+{
+    if *at <= bytes.len() && need <= bytes.len() - *at {
+        return Ok(());
+    }
+    flush(rt, bytes, at)
 }
 
 impl Output {
@@ -38,42 +82,28 @@ impl Output {
     pub fn put(&mut self, b: u8)
         ensures { self.new ≡ put_byte self.old b }
     {
-        self.at = put_at(&mut self.bytes, self.at, b);
+        self.at = put(&mut self.bytes, self.at, b);
     }
 
-    // Puts bytes, one after another. The place stands in a variable of its own meanwhile: as a field it would be stored and loaded again for
-    // each byte, and `frames` takes a quarter longer then.
+    // Puts bytes, one after another.
     pub fn put_all(&mut self, s: &[u8])
         ensures { self.new ≡ put_bytes self.old s.now }
     {
-        let mut at = self.at;
-        for b in s {
-            at = put_at(&mut self.bytes, at, *b);
-        }
-        self.at = at;
+        self.at = put_all(&mut self.bytes, self.at, s);
     }
 
-    // Puts bytes in hex, two digits each, in the same way.
+    // Puts bytes in hex, two digits each.
     pub fn put_hex(&mut self, s: &[u8])
         ensures { self.new ≡ put_bytes self.old (hexes_of s.now) }
     {
-        let mut at = self.at;
-        for b in s {
-            at = put_pair(&mut self.bytes, at, *b);
-        }
-        self.at = at;
+        self.at = put_hex(&mut self.bytes, self.at, s);
     }
 
     // Writes what stands in the buffer, all of it or not well. The buffer is free then.
     pub fn flush(&mut self, rt: &HostRuntime) -> Result<()>
         ensures { self.new ≡ emptied self.old }
     {
-        let at = self.at;
-        self.at = 0;
-        match self.bytes.get(..at) {
-            Some(text) => rt.write_all(text),
-            None => Err(Error::from(ErrorKind::InvalidInput)),
-        }
+        flush(rt, &self.bytes, &mut self.at)
     }
 
     // Sees that there is room for so many bytes more: where there is none, what stands in the buffer is written.
@@ -81,10 +111,7 @@ impl Output {
         ensures room { Roomy self.new.bytes self.new.at need }
         ensures bytes { self.new.bytes ≡ self.old.bytes }
     {
-        if self.at <= self.bytes.len() && need <= self.bytes.len() - self.at {
-            return Ok(());
-        }
-        self.flush(rt)
+        with_room(rt, &self.bytes, &mut self.at, need)
     }
 }
 

@@ -206,6 +206,10 @@ use Rattle.answers.proofs.entries.add.Kinds as answers-entries-add-kinds
 use Rattle.answers.proofs.entries.add.Reads as answers-entries-add-reads
 use Rattle.answers.proofs.entries.raise.Kinds as answers-entries-raise-kinds
 use Rattle.answers.proofs.entries.raise.Reads as answers-entries-raise-reads
+use Rattle.answers.proofs.entries.add_at.Kinds as answers-entries-add_at-kinds
+use Rattle.answers.proofs.entries.add_at.Reads as answers-entries-add_at-reads
+use Rattle.answers.proofs.entries.raise_at.Kinds as answers-entries-raise_at-kinds
+use Rattle.answers.proofs.entries.raise_at.Reads as answers-entries-raise_at-reads
 use Rattle.answers.proofs.counters.Counter.place.Kinds as answers-counters-Counter-place-kinds
 use Rattle.answers.proofs.counters.Counter.place.Reads as answers-counters-Counter-place-reads
 use Rattle.answers.proofs.Refusal.number.Kinds as answers-Refusal-number-kinds
@@ -585,6 +589,12 @@ answers-entries-add κs a x y u v p q = (refl, ap (λ (z : List ℕ). (at_last a
 
 pub answers-entries-raise : Determined 1 answers-entries-raise-kinds.ps answers-entries-raise-kinds.r answers-entries-raise-reads.Learnt
 answers-entries-raise κs a x y u v p q = (refl, ap (λ (z : List ℕ). (at_last a.0 z, (a.1.0, tt))) (p ∙ sym q))
+
+pub answers-entries-add_at : Determined 1 answers-entries-add_at-kinds.ps answers-entries-add_at-kinds.r answers-entries-add_at-reads.Learnt
+answers-entries-add_at κs a x y u v p q = (refl, ap (λ (z : List ℕ). (at_last a.0 z, (a.1.0, (a.1.1.0, tt)))) (p ∙ sym q))
+
+pub answers-entries-raise_at : Determined 1 answers-entries-raise_at-kinds.ps answers-entries-raise_at-kinds.r answers-entries-raise_at-reads.Learnt
+answers-entries-raise_at κs a x y u v p q = (refl, ap (λ (z : List ℕ). (at_last a.0 z, (a.1.0, tt))) (p ∙ sym q))
 
 pub answers-counters-Counter-place : Determined 0 answers-counters-Counter-place-kinds.ps answers-counters-Counter-place-kinds.r answers-counters-Counter-place-reads.Learnt
 answers-counters-Counter-place κs a x y u v p q = (p ∙ sym q, refl)
