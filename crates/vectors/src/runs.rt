@@ -1,8 +1,12 @@
 // What a row of each file asks: a function on the row's input, whose answer, and a lent buffer behind it, are put at the end of `got`. Of an
-// input that is too short for what is asked nothing is put.
+// input that is too short for what is asked, or asks for more room than there is, nothing is put.
+ghost use Rattle.std.specs.Prelude.{◌+◌, ◌≤◌, vec_len, IfOk, IfSome};
+
+use crate::rows::ROOM;
 use address::{Address, GatewayID};
 use escaping::EscapeError;
 use link::{EncodeError, Type};
+use std::alloc::{AllocError, Global};
 use std::io::Result as IoResult;
 
 // An answer as a row has it: 00 and a value, or a refusal's number of 01 and zeros.
@@ -31,6 +35,18 @@ fn address_of(direction: u8, id: [u8; 2]) -> Address {
     }
 }
 
+// A buffer of so many bytes, if it finds room behind an answer of five.
+fn buffer(alloc: Global, room: [u8; 3]) -> Result<Option<Vec<u8>>, AllocError>
+    ensures { IfOk result (λ r. IfSome r (λ v. vec_len v + 5 ≤ 70000)) }
+{
+    let [a, b, c] = room;
+    let room = u32::from_be_bytes([0, a, b, c]) as usize;
+    if ROOM - 5 < room {
+        return Ok(None);
+    }
+    Ok(Some(vec![in alloc; 0xee; room]?))
+}
+
 pub fn crc(input: &[u8], got: &mut Vec<u8>) -> IoResult<()> {
     got.extend_from_slice(&crc::crc(input).to_be_bytes())?;
     Ok(())
@@ -42,10 +58,12 @@ pub fn escaped_length(input: &[u8], got: &mut Vec<u8>) -> IoResult<()> {
 }
 
 pub fn escape(input: &[u8], got: &mut Vec<u8>) -> IoResult<()> {
-    let Some((room, bytes)) = input.split_first_chunk() else {
+    let Some(([_, r0, r1, r2], bytes)) = input.split_first_chunk::<4>() else {
         return Ok(());
     };
-    let mut out = vec![in *got.allocator(); 0xee; u32::from_be_bytes(*room) as usize]?;
+    let Some(mut out) = buffer(*got.allocator(), [*r0, *r1, *r2])? else {
+        return Ok(());
+    };
     let answer = escaping::escape(bytes, &mut out);
     let refusal = |e| match e {
         EscapeError::TooLong => 10,
@@ -97,21 +115,12 @@ pub fn encode(input: &[u8], got: &mut Vec<u8>) -> IoResult<()> {
     let Some((head, payload)) = input.split_first_chunk::<9>() else {
         return Ok(());
     };
-    let [
-        direction,
-        id0,
-        id1,
-        type0,
-        type1,
-        room0,
-        room1,
-        room2,
-        room3,
-    ] = *head;
+    let [direction, id0, id1, type0, type1, _, room0, room1, room2] = *head;
     let address = address_of(direction, [id0, id1]);
     let frame_type = Type(u16::from_be_bytes([type0, type1]));
-    let room = u32::from_be_bytes([room0, room1, room2, room3]) as usize;
-    let mut out = vec![in *got.allocator(); 0xee; room]?;
+    let Some(mut out) = buffer(*got.allocator(), [room0, room1, room2])? else {
+        return Ok(());
+    };
     let answer = link::encode(address, frame_type, payload, &mut out);
     let refusal = |e| match e {
         EncodeError::InvalidGatewayID => 13,

@@ -2,12 +2,15 @@
 // named by its rule. tools/vectors/records.py makes the files and says what a row holds.
 #![tactic(auto)]
 
-ghost use Rattle.std.specs.Prelude.{◌+◌, ◌≤◌, length, IfSome};
+ghost use Rattle.std.specs.Prelude.{◌≡◌, ◌-◌, ◌<◌, ◌≤◌, length, MatchOption};
 
 use address::GatewayID;
 use event_record::RecordError;
-use std::fs;
-use std::io::{Print, Result};
+use std::fs::File;
+use std::io::{Print, Read, Result};
+
+// How many bytes of a file are read.
+const MOST: u64 = 65536;
 
 // What an encoder gives.
 type Recorded = std::result::Result<usize, RecordError>;
@@ -28,11 +31,29 @@ struct Row<'a> {
     rule: &'a [u8],
 }
 
-// The row at the front, and what stands behind it; none where the bytes end before it does.
-fn row_at(text: &[u8]) -> Option<(Row<'_>, &[u8])>
-    ensures { IfSome result (λ r. length r.1.now + 16 ≤ length text.now) }
+// The head of the row at the front; a byte that is missing counts as 0.
+fn head_of(text: &[u8]) -> [u8; 16] {
+    let mut head = [0; 16];
+    for (to, from) in head.iter_mut().zip(text) {
+        *to = *from;
+    }
+    head
+}
+
+// The part of `n` bytes at the front, and what stands behind it; nothing is either, where the bytes end before the part does.
+fn part(s: &[u8], n: usize) -> (&[u8], &[u8])
+    ensures { length result.1.now ≤ length s.now - n }
 {
-    let (head, rest) = text.split_first_chunk::<16>()?;
+    s.split_at_checked(n).unwrap_or((&[], &[]))
+}
+
+// The row at the front, and what stands behind it; none at the end. Of a row that is cut off, a part that does not lie within counts as empty.
+fn row_at(text: &[u8]) -> Option<(Row<'_>, &[u8])>
+    ensures { MatchOption result (length text.now ≡ 0) (λ r. (0 < length text.now) × (length r.1.now ≤ length text.now - 16)) }
+{
+    if text.is_empty() {
+        return None;
+    }
     let [
         op,
         a0,
@@ -50,11 +71,12 @@ fn row_at(text: &[u8]) -> Option<(Row<'_>, &[u8])>
         z0,
         z1,
         named,
-    ] = *head;
-    let (first, rest) = rest.split_at_checked(u16::from_be_bytes([x0, x1]) as usize)?;
-    let (second, rest) = rest.split_at_checked(u16::from_be_bytes([y0, y1]) as usize)?;
-    let (third, rest) = rest.split_at_checked(u16::from_be_bytes([z0, z1]) as usize)?;
-    let (rule, rest) = rest.split_at_checked(named as usize)?;
+    ] = head_of(text);
+    let (_, rest) = part(text, 16);
+    let (first, rest) = part(rest, u16::from_be_bytes([x0, x1]) as usize);
+    let (second, rest) = part(rest, u16::from_be_bytes([y0, y1]) as usize);
+    let (third, rest) = part(rest, u16::from_be_bytes([z0, z1]) as usize);
+    let (rule, rest) = part(rest, named as usize);
     let row = Row {
         op,
         answer: u16::from_be_bytes([a0, a1]),
@@ -70,21 +92,21 @@ fn row_at(text: &[u8]) -> Option<(Row<'_>, &[u8])>
     Some((row, rest))
 }
 
-fn encode(row: Row<'_>, out: &mut [u8]) -> Option<Recorded> {
+fn encode(row: Row<'_>, out: &mut [u8]) -> Recorded {
     let gateway = row.gateway;
     let first = row.first;
-    let answer = match row.op {
+    match row.op {
         1 => event_record::enumeration_started(out, gateway),
         2 => event_record::identity(out, gateway, first),
         3 => event_record::version(out, gateway, first),
         4 => event_record::enumeration_ended(out, gateway),
         5 => event_record::slot_captured(out, gateway),
         6 => {
-            let [high, low, sound] = *first.first_chunk::<3>()?;
+            let [high, low, sound] = [0, 1, 2].map(|i| first.get(i).copied().unwrap_or(0));
             event_record::slot_counter(out, gateway, u16::from_be_bytes([high, low]), sound == 1)
         }
         7 => event_record::packet(out, gateway, first),
-        8 => event_record::command(
+        _ => event_record::command(
             out,
             gateway,
             row.request_type,
@@ -92,9 +114,7 @@ fn encode(row: Row<'_>, out: &mut [u8]) -> Option<Recorded> {
             row.response_type,
             first,
         ),
-        _ => return None,
-    };
-    Some(answer)
+    }
 }
 
 // What an encoder hands back, as a row has it.
@@ -108,35 +128,38 @@ fn handed(r: Recorded) -> u16 {
 }
 
 // Whether the encoder gives the row's answer, and leaves the row's bytes in the buffer.
-fn encodes(row: Row<'_>) -> Option<bool> {
+fn encodes(row: Row<'_>) -> bool {
     let mut buffer = [0xeeu8; 2048];
-    let out = buffer.get_mut(..row.room as usize)?;
-    let answer = handed(encode(row, out)?);
-    Some(answer == row.answer && &*out == row.third)
+    match buffer.get_mut(..row.room as usize) {
+        Some(out) => handed(encode(row, out)) == row.answer && &*out == row.third,
+        None => false,
+    }
 }
 
-// Where the record ends that stands at a place, or ffff.
-fn end_at(log: &[u8], at: u16) -> u16 {
-    match sound_record::sound_at(log, at as usize) {
-        Some(end) => (end % 65536) as u16,
-        None => 0xffff,
+// Whether the row's answer is where the record ends that stands at the row's place, or ffff for none.
+fn stands(row: Row<'_>) -> bool {
+    match sound_record::sound_at(row.first, row.room as usize) {
+        Some(end) => end == row.answer as usize,
+        None => row.answer == 0xffff,
     }
 }
 
 fn agrees(row: Row<'_>) -> bool {
     match row.op {
         0 => u16::from(sound_record::sound(row.first)) == row.answer,
-        9 => end_at(row.first, row.room) == row.answer,
-        _ => encodes(row) == Some(true),
+        9 => stands(row),
+        _ => encodes(row),
     }
 }
 
 // Runs each row of a file, and prints the file's line.
 fn file(rt: &HostRuntime, path: &str) -> Result<()> {
-    let text = match fs::read(rt, path) {
-        Ok(text) => text,
+    let opened = match File::open(rt, path) {
+        Ok(opened) => opened,
         Err(why) => return eprintln!(rt; "{path}: {why}"),
     };
+    let mut text = Vec::new(rt.alloc());
+    opened.take(MOST).read_to_end(&mut text)?;
     let mut all = 0u64;
     let mut agreed = 0u64;
     // the first line says what the file is
@@ -153,9 +176,6 @@ fn file(rt: &HostRuntime, path: &str) -> Result<()> {
             rt.write_all(b"\n")?;
         }
         rest = behind;
-    }
-    if !rest.is_empty() {
-        println!(rt; "{path}: the last row is cut off")?;
     }
     println!(rt; "{path}: {agreed} of {all} rows agree")
 }

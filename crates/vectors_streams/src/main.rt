@@ -3,10 +3,26 @@
 // What the Rust makes of the same streams is the file `stdout`; tools/oracle writes both.
 #![tactic(auto)]
 
+ghost use Rattle.std.specs.Prelude.{◌<◌, IfSome};
+
 use address::Address;
 use link_receive::{Answer, Receiver};
-use std::fs;
-use std::io::Result;
+use std::fs::File;
+use std::io::{Print, Read, Result};
+
+// How many bytes of a file are read.
+const MOST: u64 = 65536;
+
+// What a hexadecimal digit stands for.
+fn digit(b: u8) -> Option<u8>
+    ensures { IfSome result (λ d. d < 16) }
+{
+    match b {
+        b'0'..=b'9' => Some(b - b'0'),
+        b'a'..=b'f' => Some(b - b'a' + 10),
+        _ => None,
+    }
+}
 
 // The 16 bits of an address that stood on the line.
 fn address_number(a: Address) -> u16 {
@@ -37,30 +53,35 @@ fn ledger(rt: &HostRuntime, r: Receiver) -> Result<()> {
     )
 }
 
-// A line's stream.
-fn stream(rt: &HostRuntime, line: &str) -> Result<()> {
-    let bytes = match hex::decode(rt.alloc(), line) {
-        Ok(bytes) => bytes,
-        Err(why) => return println!(rt; "{line}: {why}"),
-    };
+// A line's stream. A byte that is no digit does not count, nor does a last digit without a second one.
+fn stream(rt: &HostRuntime, line: &[u8]) -> Result<()> {
     let mut r = Receiver::new();
-    for b in &bytes {
-        let s = r.push_u8(*b);
-        r = s.next;
-        frame(rt, s.answer, &r.body)?;
+    let mut first = None;
+    for d in line.iter().filter_map(|b| digit(*b)) {
+        match first.take() {
+            None => first = Some(d),
+            Some(high) => {
+                let s = r.push_u8(high << 4 | d);
+                r = s.next;
+                frame(rt, s.answer, &r.body)?;
+            }
+        }
     }
     ledger(rt, r)
 }
 
 fn main(rt: HostRuntime) -> Result<()> {
     let path = "streams";
-    let text = match fs::read_to_string(&rt, path) {
-        Ok(text) => text,
+    let opened = match File::open(&rt, path) {
+        Ok(opened) => opened,
         Err(why) => return eprintln!(rt; "{path}: {why}"),
     };
-    for line in text.lines() {
-        if line.starts_with('#') {
-            println!(rt; "{line}")?;
+    let mut text = Vec::new(rt.alloc());
+    opened.take(MOST).read_to_end(&mut text)?;
+    for line in text.split_inclusive(|b| *b == b'\n') {
+        if line.starts_with(b"#") {
+            rt.write_all(line.strip_suffix(b"\n").unwrap_or(line))?;
+            rt.write_all(b"\n")?;
         } else {
             stream(&rt, line)?;
         }

@@ -1,4 +1,4 @@
--- `vectors_records::file` ends: each row takes at least 16 bytes. Assumes nothing.
+-- `vectors_records::file` ends: each row takes a byte at least. Assumes nothing.
 use Rattle.std.proofs.Common.{length}
 use Rattle.vectors_records.proofs.file.Given as goal
 
