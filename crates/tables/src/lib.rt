@@ -44,5 +44,5 @@ pub fn over(keys: &[u32], lengths: &[u16], limit: u16) -> bool
         && keys
             .iter()
             .zip(lengths)
-            .any(|(k, n)| *k != FREE && limit < *n)
+            .any(|(k, n)| limit < *n && *k != FREE)
 }
