@@ -56,7 +56,9 @@ fn paced(pace: usize, went: usize) -> usize {
 }
 
 // What an overlong tail skips, as far as the slice has it whole: all before the pair that opens or closes a frame. All up to the next 07 or 08
-// goes at once; where it ends no pair, it is skipped too. A step is as long as its run.
+// goes at once; where it ends no pair, it is skipped too. A step is as long as its run. Within the loop of `advance` a long run would want for
+// registers and take half as long again.
+#[inline(never)]
 pub fn tail(s: &[u8], i0: usize) -> usize
     requires { i0 ≤ length s.now }
     ensures { Skipped crc_of fresh_of s.now i0 result }
