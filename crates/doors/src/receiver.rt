@@ -48,15 +48,20 @@ pub extern "C" fn johkkesir_push_u8(
     ensures body_after { body.new ≡ (pushed_at numbers.old body.old b).next.body }
     ensures found_after { found.new ≡ found_of (pushed_at numbers.old body.old b).answer }
 {
+    if Receiver::MAX_FRAME_SIZE < numbers[1] as usize {
+        *found = found_by(Err(OverLimit));
+        return 0;
+    }
     let r = receiver_at(*numbers, *body);
     let f = r.push_u8(b);
-    *found = found_by(f.answer);
-    let Ok(after) = numbers_of(f.next) else {
-        return 0;
-    };
-    let units = f.next.body;
-    *numbers = after;
+    // `f.next` is read once, and its body stored before the numbers are asked for: otherwise the body is copied once or twice more.
+    let next = f.next;
+    let units = next.body;
     *body = units;
+    *found = found_by(f.answer);
+    if let Ok(after) = numbers_of(next) {
+        *numbers = after;
+    }
     1
 }
 
