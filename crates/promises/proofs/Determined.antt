@@ -298,6 +298,12 @@ use Rattle.transport_receiver.proofs.request_payload.Kinds as transport_receiver
 use Rattle.transport_receiver.proofs.request_payload.Reads as transport_receiver-request_payload-reads
 use Rattle.console.proofs.FailureFromError.from.Kinds as console-Failure-from-kinds
 use Rattle.console.proofs.FailureFromError.from.Reads as console-Failure-from-reads
+use Rattle.console.proofs.text.put.Kinds as console-text-put-kinds
+use Rattle.console.proofs.text.put.Reads as console-text-put-reads
+use Rattle.console.proofs.text.put_all.Kinds as console-text-put_all-kinds
+use Rattle.console.proofs.text.put_all.Reads as console-text-put_all-reads
+use Rattle.console.proofs.text.put_hex.Kinds as console-text-put_hex-kinds
+use Rattle.console.proofs.text.put_hex.Reads as console-text-put_hex-reads
 use Rattle.console.proofs.text.Output.put.Kinds as console-text-Output-put-kinds
 use Rattle.console.proofs.text.Output.put.Reads as console-text-Output-put-reads
 use Rattle.console.proofs.text.Output.put_all.Kinds as console-text-Output-put_all-kinds
@@ -721,6 +727,15 @@ byte_runs-copy_run κs a x y u v p q = (p.0 ∙ sym q.0, ap (λ (z : List ℕ). 
 
 pub console-Failure-from : Determined 0 console-Failure-from-kinds.ps console-Failure-from-kinds.r console-Failure-from-reads.Learnt
 console-Failure-from κs a x y u v p q = (p ∙ sym q, refl)
+
+pub console-text-put : Determined 1 console-text-put-kinds.ps console-text-put-kinds.r console-text-put-reads.Learnt
+console-text-put κs a x y u v p q = (ap (λ (o : Output). o.at) (p ∙ sym q), ap (λ (o : Output). (at_last a.0 o.bytes, (a.1.0, (a.1.1.0, tt)))) (p ∙ sym q))
+
+pub console-text-put_all : Determined 2 console-text-put_all-kinds.ps console-text-put_all-kinds.r console-text-put_all-reads.Learnt
+console-text-put_all κs a x y u v p q = (ap (λ (o : Output). o.at) (p ∙ sym q), ap (λ (o : Output). (at_last a.0 o.bytes, (a.1.0, (a.1.1.0, tt)))) (p ∙ sym q))
+
+pub console-text-put_hex : Determined 2 console-text-put_hex-kinds.ps console-text-put_hex-kinds.r console-text-put_hex-reads.Learnt
+console-text-put_hex κs a x y u v p q = (ap (λ (o : Output). o.at) (p ∙ sym q), ap (λ (o : Output). (at_last a.0 o.bytes, (a.1.0, (a.1.1.0, tt)))) (p ∙ sym q))
 
 pub console-text-Output-put : Determined 1 console-text-Output-put-kinds.ps console-text-Output-put-kinds.r console-text-Output-put-reads.Learnt
 console-text-Output-put κs a x y u v p q = (refl, ap (λ (o : Output). (at_last a.0 o, (a.1.0, tt))) (p ∙ sym q))
