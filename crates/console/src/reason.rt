@@ -1,4 +1,6 @@
 // Why something failed, in the system's words.
+ghost use Rattle.std.specs.Prelude.{◌≤◌, length};
+
 use crate::text::{put, put_all};
 use std::fmt;
 use std::fmt::Write;
@@ -29,7 +31,9 @@ impl fmt::Write for Reason {
 }
 
 // Where words end without the number in brackets behind them, as in `No such file or directory (os error 2)`.
-fn end_of(words: &[u8]) -> usize {
+fn end_of(words: &[u8]) -> usize
+    ensures { result ≤ length words.now }
+{
     match words.iter().rposition(|b| *b == b'(') {
         Some(at) => at.saturating_sub(1),
         None => words.len(),
