@@ -12,6 +12,7 @@ use reason::reason_of;
 use std::env::Env;
 use std::fs::File;
 use std::io::{Error, Print, Read, Result, Stdin};
+use text::{flush, put, put_all};
 
 mod asked;
 mod reason;
@@ -65,23 +66,24 @@ impl From<Error> for Failure {
     }
 }
 
-// A program: its name, the one option that it has beside `--help`, empty if it has none, its usage and the help behind it.
+// A program: its name, the one option that it has beside `--help`, empty if it has none, its usage and the help behind it, each a line or more.
 #[derive(Clone, Copy)]
 pub struct Program<'a> {
-    pub name: &'a str,
-    pub own: &'a str,
-    pub usage: &'a str,
-    pub help: &'a str,
+    pub name: &'a [u8],
+    pub own: &'a [u8],
+    pub usage: &'a [u8],
+    pub help: &'a [u8],
 }
 
 impl<'a> Program<'a> {
     // Says on standard error what failed, and why: the line of an error begins with the program's name.
     pub fn fail(&self, rt: &HostRuntime, what: &[u8], why: Error) {
-        let name = self.name;
         let reason = reason_of(why);
-        let _ = eprint!(rt; "{name}: ");
-        let _ = rt.stderr().write_all(what);
-        let _ = rt.stderr().write_all(reason.line());
+        let to = rt.stderr();
+        let _ = to.write_all(self.name);
+        let _ = to.write_all(b": ");
+        let _ = to.write_all(what);
+        let _ = to.write_all(reason.line());
     }
 
     // Says that a write failed.
@@ -129,15 +131,14 @@ impl<'a> Program<'a> {
 
     // Writes the usage line and the help behind it.
     fn print_help(&self, rt: &HostRuntime) -> Result<()> {
-        let usage = self.usage;
-        let help = self.help;
-        println!(rt; "{usage}\n{help}")
+        rt.write_all(self.usage)?;
+        rt.write_all(self.help)
     }
 
     // Reads the program's words and opens its input, whose name it keeps in `space`. Help goes to standard output; wrong words are answered by
     // the usage line. In both cases there is no input to work on.
     pub fn start<'b>(&self, rt: &HostRuntime, space: &'b mut [u8]) -> Option<Input<'b>> {
-        match asked::read(rt, self.own.as_bytes()) {
+        match asked::read(rt, self.own) {
             Ok(Asked::Work { input, own }) => return self.open(rt, input, own, space),
             Ok(Asked::Help) => {
                 if let Err(why) = self.print_help(rt) {
@@ -145,8 +146,7 @@ impl<'a> Program<'a> {
                 }
             }
             Err(WrongWords::Usage) => {
-                let usage = self.usage;
-                let _ = eprintln!(rt; "{usage}");
+                let _ = rt.stderr().write_all(self.usage);
             }
             Err(WrongWords::TooLong) => {
                 self.fail(rt, b"a word", Error::from_raw_os_error(NAME_TOO_LONG));
@@ -164,10 +164,22 @@ fn open_named(rt: &HostRuntime, name: &[u8]) -> Result<File> {
     }
 }
 
+// Writes a line, a name of at most 100 bytes and a number in decimal, in one write.
+fn print_line(rt: &HostRuntime, name: &[u8], number: u64) -> Result<()> {
+    let mut digits = [0; 20];
+    let k = io::decimal(number, &mut digits);
+    let mut line = [0; 128];
+    let named = put_all(&mut line, 0, name);
+    let spaced = put(&mut line, named, b' ');
+    let counted = put_all(&mut line, spaced, &digits[..k]);
+    let mut end = put(&mut line, counted, b'\n');
+    flush(rt, &line, &mut end)
+}
+
 // Writes a line for each number, behind its name.
-pub fn print_lines(rt: &HostRuntime, lines: &[(&str, u64)]) -> Result<()> {
+pub fn print_lines(rt: &HostRuntime, lines: &[(&[u8], u64)]) -> Result<()> {
     for (name, number) in lines {
-        println!(rt; "{name} {number}")?;
+        print_line(rt, name, *number)?;
     }
     Ok(())
 }
@@ -177,15 +189,15 @@ pub fn print_ledger(rt: &HostRuntime, l: Ledger) -> Result<()> {
     print_lines(
         rt,
         &[
-            ("openings", l.openings),
-            ("frames", l.frames),
-            ("runts", l.runts),
-            ("checksums", l.checksums),
-            ("giants", l.giants),
-            ("escaped", l.escaped),
-            ("broken", l.broken),
-            ("noise", l.noise),
-            ("open", l.unfinished),
+            (b"openings", l.openings),
+            (b"frames", l.frames),
+            (b"runts", l.runts),
+            (b"checksums", l.checksums),
+            (b"giants", l.giants),
+            (b"escaped", l.escaped),
+            (b"broken", l.broken),
+            (b"noise", l.noise),
+            (b"open", l.unfinished),
         ],
     )
 }

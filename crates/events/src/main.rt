@@ -13,10 +13,10 @@ mod blocks;
 mod counters;
 
 const EVENTS: Program<'static> = Program {
-    name: "events",
-    own: "--ledger",
-    usage: "usage: events [FILE] [--ledger]",
-    help: "Writes the event log of FILE; with --ledger, prints its ledger and its counters. No FILE, or -, is standard input.",
+    name: b"events",
+    own: b"--ledger",
+    usage: b"usage: events [FILE] [--ledger]\n",
+    help: b"Writes the event log of FILE; with --ledger, prints its ledger and its counters. No FILE, or -, is standard input.\n",
 };
 
 // Prints the ledger of all that was read, and the counters, where no log is asked for.

@@ -10,10 +10,10 @@ use link_feed::lending::feed_from;
 use link_receive::{Answer, Receiver};
 
 const FRAMES: Program<'static> = Program {
-    name: "frames",
-    own: "",
-    usage: "usage: frames [FILE]",
-    help: "Prints a line for each sound frame of FILE. No FILE, or -, is standard input.",
+    name: b"frames",
+    own: b"",
+    usage: b"usage: frames [FILE]\n",
+    help: b"Prints a line for each sound frame of FILE. No FILE, or -, is standard input.\n",
 };
 
 // The longest line: `From`, three blanks, eight digits, 500 more for a payload of 250 bytes, and the line's end.

@@ -6,10 +6,10 @@ use console::{Failure, Program, Source};
 use link_receive::Receiver;
 
 const LEDGER: Program<'static> = Program {
-    name: "ledger",
-    own: "",
-    usage: "usage: ledger [FILE]",
-    help: "Prints the ledger of FILE, nine counts. No FILE, or -, is standard input.",
+    name: b"ledger",
+    own: b"",
+    usage: b"usage: ledger [FILE]\n",
+    help: b"Prints the ledger of FILE, nine counts. No FILE, or -, is standard input.\n",
 };
 
 // Prints the ledger, and tells whether that went well.
