@@ -176,17 +176,25 @@ fn print_line(rt: &HostRuntime, name: &[u8], number: u64) -> Result<()> {
     flush(rt, &line, &mut end)
 }
 
-// Writes a line for each number, behind its name.
-pub fn print_lines(rt: &HostRuntime, lines: &[(&[u8], u64)]) -> Result<()> {
+// Writes a line for each number, behind its name, at most 100 bytes of any kind.
+pub fn print_lines_of_bytes(rt: &HostRuntime, lines: &[(&[u8], u64)]) -> Result<()> {
     for (name, number) in lines {
         print_line(rt, name, *number)?;
     }
     Ok(())
 }
 
+// Writes a line for each number, behind its name, a text of any length.
+pub fn print_lines(rt: &HostRuntime, lines: &[(&str, u64)]) -> Result<()> {
+    for (name, number) in lines {
+        println!(rt; "{name} {number}")?;
+    }
+    Ok(())
+}
+
 // Writes a ledger, 01's nine lines, and tells whether that went well.
 pub fn print_ledger(rt: &HostRuntime, l: Ledger) -> Result<()> {
-    print_lines(
+    print_lines_of_bytes(
         rt,
         &[
             (b"openings", l.openings),

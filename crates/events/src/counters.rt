@@ -40,7 +40,7 @@ const NAMES: [&str; 33] = [
 // Writes the counters, and tells whether that went well.
 pub fn print_counters(rt: &HostRuntime, counters: &[u64; 33]) -> Result<()> {
     for (name, number) in NAMES.iter().zip(counters) {
-        console::print_lines(rt, &[(name.as_bytes(), *number)])?;
+        console::print_lines_of_bytes(rt, &[(name.as_bytes(), *number)])?;
     }
     Ok(())
 }
