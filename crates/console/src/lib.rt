@@ -2,7 +2,7 @@
 // A program lends its buffers, and keeps the loop over its blocks itself.
 #![tactic(auto)]
 
-ghost use Rattle.std.specs.Prelude.{◌≡◌};
+ghost use Rattle.std.specs.Prelude.{◌≡◌, length, IsOk};
 ghost use Rattle.std.specs.Io.{ReadsAtMost};
 ghost use Rattle.console.specs.declared.Failure.TheVariants.{Output};
 
@@ -184,8 +184,10 @@ pub fn print_lines_of_bytes(rt: &HostRuntime, lines: &[(&[u8], u64)]) -> Result<
     Ok(())
 }
 
-// Writes a line for each number, behind its name, a text of any length.
-pub fn print_lines(rt: &HostRuntime, lines: &[(&str, u64)]) -> Result<()> {
+// Writes a line for each number, behind its name, a text of any length. Where there is none, nothing is written, and that goes well.
+pub fn print_lines(rt: &HostRuntime, lines: &[(&str, u64)]) -> Result<()>
+    ensures { length lines.now ≡ 0 → IsOk result }
+{
     for (name, number) in lines {
         println!(rt; "{name} {number}")?;
     }
