@@ -66,7 +66,8 @@ impl From<Error> for Failure {
     }
 }
 
-// A program: its name, the one option that it has beside `--help`, empty if it has none, its usage and the help behind it, each a line or more.
+// A program: its name, the one option that it has beside `--help`, empty if it has none, its usage and the help behind it, each a line or more
+// with the end of the last.
 #[derive(Clone, Copy)]
 pub struct Program<'a> {
     pub name: &'a [u8],
@@ -176,15 +177,18 @@ fn print_line(rt: &HostRuntime, name: &[u8], number: u64) -> Result<()> {
     flush(rt, &line, &mut end)
 }
 
-// Writes a line for each number, behind its name, at most 100 bytes of any kind.
-pub fn print_lines_of_bytes(rt: &HostRuntime, lines: &[(&[u8], u64)]) -> Result<()> {
+// Writes a line for each number, behind its name: bytes of any kind, at most 100, since a longer name leaves no room for the number. Where there
+// is no line to write, none is, and that goes well.
+pub fn print_lines_of_bytes(rt: &HostRuntime, lines: &[(&[u8], u64)]) -> Result<()>
+    ensures { length lines.now ≡ 0 → IsOk result }
+{
     for (name, number) in lines {
         print_line(rt, name, *number)?;
     }
     Ok(())
 }
 
-// Writes a line for each number, behind its name, a text of any length. Where there is none, nothing is written, and that goes well.
+// The same for names that are texts, of any length: no buffer bounds them.
 pub fn print_lines(rt: &HostRuntime, lines: &[(&str, u64)]) -> Result<()>
     ensures { length lines.now ≡ 0 → IsOk result }
 {
