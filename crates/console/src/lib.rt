@@ -66,8 +66,8 @@ impl From<Error> for Failure {
     }
 }
 
-// A program: its name, the one option that it has beside `--help`, empty if it has none, its usage and the help behind it, each a line or more
-// with the end of the last.
+// A program: its name, the one option that it has beside `--help`, empty if it has none, its usage and the help behind it, each of one
+// line or more, with each line's end.
 #[derive(Clone, Copy)]
 pub struct Program<'a> {
     pub name: &'a [u8],
@@ -177,8 +177,8 @@ fn print_line(rt: &HostRuntime, name: &[u8], number: u64) -> Result<()> {
     flush(rt, &line, &mut end)
 }
 
-// Writes a line for each number, behind its name: bytes of any kind, at most 100, since a longer name leaves no room for the number. Where there
-// is no line to write, none is, and that goes well.
+// Writes a line for each number, behind its name: bytes of any kind, at most 100, behind which there is room for any number and the line's end.
+// What has no room is left out. Where there is no line to write, none is, and that goes well.
 pub fn print_lines_of_bytes(rt: &HostRuntime, lines: &[(&[u8], u64)]) -> Result<()>
     ensures { length lines.now ≡ 0 → IsOk result }
 {
